@@ -1,0 +1,38 @@
+-- `dimension::rational::Rational::add` meets its contract: two whole numbers take the short way.
+-- Assumes nothing.
+use mathlib.Core.Path.{_∙_}
+use mir.Syntax.{w32, w64}
+use mir.Val.{SFits}
+use mir.ValLaws.{toZ-ofZ}
+use borrow.Author.Needs.{needs}
+use Rattle.dimension.proofs.Signs.{sum-fits}
+use Rattle.dimension.proofs.Whole.{whole-sum}
+use Rattle.dimension.proofs.rational.Rational.add.Statement.{statement}
+use Rattle.dimension.proofs.rational.Rational.add.Tie as tie
+
+fits-self : (c : tie.Start) → SFits w32 (c .args .self .num)
+fits-self c = search needs
+
+fits-other : (c : tie.Start) → SFits w32 (c .args .other .num)
+fits-other c = search needs
+
+added-requires : tie.Need-added-requires
+added-requires c κs = search needs
+
+whole-requires : tie.Need-whole-requires
+whole-requires c κs = search needs
+
+returns : tie.Need-returns
+returns c =
+    let s = c .before .before .before .before .before .before .before .before in
+    let a = s .args .self in
+    let b = s .args .other in
+    let e = rw (toZ-ofZ w32 (a .num) (fits-self s), toZ-ofZ w32 (b .num) (fits-other s)) at (c .before .added .ensures) in
+    rw (e, toZ-ofZ w64 _ (sum-fits (a .num) (b .num) (fits-self s) (fits-other s))) at (c .whole .ensures)
+    ∙ whole-sum a b (c .before .before .before .before .before .before .if1 .taken) (c .before .before .before .before .if2 .taken)
+
+sum-requires : tie.Need-sum-requires
+sum-requires c κs = search needs
+
+pub add-spec : {M : Type 1} → statement M
+add-spec = tie.close (tie.spec added-requires whole-requires returns sum-requires (λ c. c .sum .ensures))

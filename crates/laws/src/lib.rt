@@ -1,0 +1,1 @@
+// No functions: specs/ has the combinators that definitions are made of, proofs/ their laws.
