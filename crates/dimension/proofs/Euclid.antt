@@ -1,7 +1,7 @@
 -- The laws of `gcd`: Euclid's step; it divides both numbers, and whatever divides both divides it; a factor of both moves out.
 -- Assumes nothing.
 use mathlib.Core.Path.{_≡_, refl, sym, _∙_, ap}
-use Prim.Native.Nat.{ℕ, zero, suc, _+_, _-_, _*_, _%_, _/_, _<_, _≤_, _∣_}
+use Prim.Native.Nat.{ℕ, zero, suc, _*_, _%_, _/_, _<_, _∣_, _-_}
 use native.Mathlib.Nat.{mod-lt, mod-def, mul-div-mul-left, mul-assoc, mul-sub, mul-zero, mul-pos, dvd-refl, dvd-zero, dvd-mod-iff, pos-of-dvd-of-pos, zero-lt-suc, not-suc-le-zero}
 use native.Mathlib.Omega.{arith}
 use Rattle.dimension.specs.Gcd.{euclid, gcd}

@@ -8,15 +8,14 @@ use native.Mathlib.Nat.{mul-pos, mul-le-mul, div-le-self, zero-mul, mul-zero, no
 use native.Mathlib.Nat as N
 use native.Mathlib.Omega.{arith}
 use borrow.Author.Tests.{leb-true, ltb-true, le-leb, lt-ltb, eqb-true, eq-eqb}
-use lib.Dec.{leb, ltb, eqb}
+use lib.Dec.{leb, ltb}
 use lib.IntN.{ℤ, pos, negsuc, negℤ, natAbs, _+ℤ_, _-ℤ_, _*ℤ_, +ℤ-comm, *ℤ-comm, negℤ-negℤ}
-use Rattle.laws.proofs.Cases.{and-left, and-right, and-both}
+use Rattle.laws.proofs.Cases.{and-left, and-right}
 use Rattle.dimension.specs.Gcd.{gcd, euclid}
 use Rattle.dimension.specs.Integer.{eqZ, up, down}
 use Rattle.dimension.specs.Fraction as F
-use Rattle.dimension.specs.Fraction.{ratio, lowest, limit, within, limited, answer, sum, difference, product, opposite, equal, isOne, isZero, declared, Reduced, Proper, Declared}
+use Rattle.dimension.specs.Fraction.{ratio, lowest, limit, within, limited, answer, sum, difference, product, opposite, equal, isOne, isZero, declared, IsSum, IsDifference, IsProduct, IsOpposite, SameValue, Reduced, Proper, Declared}
 use Rattle.dimension.specs.declared.rational.Rational.{Rational}
-use Rattle.dimension.specs.declared.rational.Ratio.{Ratio}
 use Rattle.dimension.specs.declared.rational.Ratio.the-variants.{Is, Over}
 use Rattle.dimension.proofs.Integers.{diff, is, nat, plus, times, scale, turn, same, across, size-neg, size-sum, size-difference, size-product}
 use Rattle.dimension.proofs.Lowest.{alike, lowest-scale, lowest-same, lowest-value, lowest-reduced, fixed, unique}
@@ -72,7 +71,7 @@ answer-of n d r h p e =
     rw (l, within-of r p)
 
 -- two fractions in lowest terms of one value are one
-pub same-value : (a b : Rational) → Reduced a → Reduced b → a .num *ℤ pos (b .den) ≡ b .num *ℤ pos (a .den) → a ≡ b
+pub same-value : (a b : Rational) → Reduced a → Reduced b → SameValue a b → a ≡ b
 same-value a b h k e = unique a b h k e
 
 -- a fraction in lowest terms within the limits is its own answer
@@ -81,15 +80,15 @@ answer-self a h = answer-of (a .num) (a .den) a (h .reduced .positive) h refl
 
 -- ---- the values. SI Brochure, 9th edition, 2.3.3: exponents of a product add, of a quotient subtract, of a power multiply
 module _ (a b r : Rational) where
-  pub sum-value : sum a b ≡ Is r → r .num *ℤ pos (a .den * b .den) ≡ (a .num *ℤ pos (b .den) +ℤ b .num *ℤ pos (a .den)) *ℤ pos (r .den)
+  pub sum-value : sum a b ≡ Is r → IsSum a b r
   unfolding sum
   sum-value e = answer-value _ _ r e
 
-  pub difference-value : difference a b ≡ Is r → r .num *ℤ pos (a .den * b .den) ≡ (a .num *ℤ pos (b .den) -ℤ b .num *ℤ pos (a .den)) *ℤ pos (r .den)
+  pub difference-value : difference a b ≡ Is r → IsDifference a b r
   unfolding difference
   difference-value e = answer-value _ _ r e
 
-  pub product-value : product a b ≡ Is r → r .num *ℤ pos (a .den * b .den) ≡ a .num *ℤ b .num *ℤ pos (r .den)
+  pub product-value : product a b ≡ Is r → IsProduct a b r
   unfolding product
   product-value e = answer-value _ _ r e
 
@@ -106,20 +105,20 @@ module _ (a b r : Rational) where
   product-proper e = answer-proper _ _ r e
 
   module _ (h : 0 < a .den) (k : 0 < b .den) (p : Proper r) where
-    pub sum-of : r .num *ℤ pos (a .den * b .den) ≡ (a .num *ℤ pos (b .den) +ℤ b .num *ℤ pos (a .den)) *ℤ pos (r .den) → sum a b ≡ Is r
+    pub sum-of : IsSum a b r → sum a b ≡ Is r
     unfolding sum
     sum-of e = answer-of _ _ r (mul-pos h k) p e
 
-    pub difference-of : r .num *ℤ pos (a .den * b .den) ≡ (a .num *ℤ pos (b .den) -ℤ b .num *ℤ pos (a .den)) *ℤ pos (r .den) → difference a b ≡ Is r
+    pub difference-of : IsDifference a b r → difference a b ≡ Is r
     unfolding difference
     difference-of e = answer-of _ _ r (mul-pos h k) p e
 
-    pub product-of : r .num *ℤ pos (a .den * b .den) ≡ a .num *ℤ b .num *ℤ pos (r .den) → product a b ≡ Is r
+    pub product-of : IsProduct a b r → product a b ≡ Is r
     unfolding product
     product-of e = answer-of _ _ r (mul-pos h k) p e
 
 module _ (a r : Rational) where
-  pub opposite-value : opposite a ≡ Is r → r .num *ℤ pos (a .den) ≡ negℤ (a .num) *ℤ pos (r .den)
+  pub opposite-value : opposite a ≡ Is r → IsOpposite a r
   unfolding opposite
   opposite-value e = answer-value _ _ r e
 

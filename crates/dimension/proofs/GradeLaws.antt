@@ -1,13 +1,13 @@
 -- The laws of grades: the rule at every entry of a table, by one test that is computed; what is answered is a grade; which products may be turned.
 -- Assumes nothing.
-use mathlib.Core.Path.{_≡_, refl, sym, _∙_, ap, ap₂}
+use mathlib.Core.Path.{_≡_, refl, _∙_, ap₂}
 use mathlib.Core.Bool.{Bool, true, false, cond, _&&_, _||_, not, and-comm, or-comm}
 use mathlib.Core.List.{List, [], _∷_}
-use Prim.Native.Nat.{ℕ, _+_, _-_, _*_, _/_, _%_, _<_, _≤_}
+use Prim.Native.Nat.{ℕ, _+_, _-_, _/_, _%_, _<_, _≤_}
 use native.Mathlib.Nat.{add-comm}
 use native.Mathlib.Omega.{arith}
 use borrow.Author.Tests.{leb-true, leb-false, le-leb, lt-ltb, le-ltb, eqb-true, ne-eqb}
-use lib.Dec.{leb, ltb, eqb}
+use lib.Dec.{leb, eqb}
 use lib.ListN.{getD}
 use Rattle.laws.specs.Ranges.{all}
 use Rattle.laws.proofs.All.{all-at}

@@ -2,10 +2,10 @@
 -- Assumes nothing.
 use mathlib.Core.Path.{_≡_, refl, sym, _∙_, ap, subst}
 use mathlib.Core.Bool.{Bool, true, false}
-use Prim.Native.Nat.{ℕ, zero, suc, _+_, _*_, _/_, _<_, _≤_, _∣_}
-use native.Mathlib.Nat.{mul-div-mul-right, mul-comm, zero-mul, div-mul-cancel, mul-pos, div-one, eq-of-mul-eq-mul-left, mul-one}
+use Prim.Native.Nat.{ℕ, zero, suc, _*_, _/_, _<_}
+use native.Mathlib.Nat.{mul-div-mul-right, mul-comm, zero-mul, div-mul-cancel, div-one, eq-of-mul-eq-mul-left, mul-one}
 use native.Mathlib.Omega.{arith}
-use lib.IntN.{ℤ, pos, negsuc, negℤ, natAbs, _*ℤ_}
+use lib.IntN.{ℤ, pos, negsuc, natAbs, _*ℤ_}
 use Rattle.dimension.specs.Gcd.{gcd}
 use Rattle.dimension.specs.Fraction.{ratio, lowest, Reduced}
 use Rattle.dimension.specs.Integer.{signed}

@@ -8,9 +8,9 @@ use lib.IntN.{ℤ, pos, negℤ, natAbs, subℕ, _+ℤ_, _-ℤ_, _*ℤ_}
 use lib.Signed.{quotZ}
 use Rattle.dimension.specs.Gcd.{gcd}
 use Rattle.dimension.specs.Integer.{up, down, signed}
-use Rattle.dimension.specs.Fraction.{ratio, lowest, within, limited, answer, sum, product, opposite, difference}
+use Rattle.dimension.specs.Fraction.{ratio, lowest, within, limited, answer}
 use Rattle.dimension.specs.declared.rational.Ratio.the-variants.{Over}
-use Rattle.dimension.proofs.Integers.{diff, is-up, is-down, is, same, plus, turn, times, scale}
+use Rattle.dimension.proofs.Integers.{diff, is-up, is-down, is, plus, turn, times, scale}
 use Rattle.dimension.proofs.Signs.{signed-size}
 
 -- a difference with its sign

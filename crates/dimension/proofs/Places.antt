@@ -1,7 +1,7 @@
 -- Lists of exponents, place by place: what a loop over them has made so far.
 -- Assumes nothing.
-use mathlib.Core.Path.{_≡_, refl, sym, _∙_, ap}
-use mathlib.Core.Bool.{Bool, true, false, _&&_, and-false}
+use mathlib.Core.Path.{_≡_, refl, ap}
+use mathlib.Core.Bool.{true, false, and-false}
 use mathlib.Core.List.{List, [], _∷_, _++_, zipWith, map}
 use mathlib.Core.Option.{Option, some, none}
 use Prim.Native.Nat.{ℕ, zero, suc, _+_, _<_, _≤_}
@@ -19,7 +19,6 @@ use Rattle.dimension.specs.declared.rational.Rational.{Rational}
 use Rattle.dimension.specs.declared.rational.Ratio.{Ratio}
 use Rattle.dimension.specs.declared.rational.Ratio.the-variants.{Is, Over}
 use Rattle.dimension.specs.declared.dimensions.Dimensions.{Dimensions}
-use Rattle.dimension.specs.declared.dimensions.Outcome.{Outcome}
 
 module _ (f : Rational → Rational → Ratio) where
   pub zip-at : (d : Rational) (r : Ratio) (a b : List Rational) (k : ℕ) → k < length a → k < length b → getD (zipWith f a b) k r ≡ f (getD a k d) (getD b k d)

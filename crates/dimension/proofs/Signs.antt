@@ -1,7 +1,7 @@
 -- Signed numbers of the machine: what fits 32 and 64 bits, a number's parts and size, and the bits that stand for it. Assumes nothing.
 use mathlib.Core.Path.{_≡_, refl, sym, _∙_, ap}
 use mathlib.Core.Bool.{Bool, true, false, _&&_, true≢false}
-use Prim.Native.Nat.{ℕ, zero, suc, _+_, _*_, _-_, _<_, _≤_, _^_}
+use Prim.Native.Nat.{ℕ, zero, suc, _+_, _-_, _*_, _<_, _≤_, _^_}
 use native.Mathlib.Nat.{not-suc-le-zero, mul-le-mul}
 use native.Mathlib.Decide.{ℕ-discrete}
 use native.Mathlib.Omega.{arith}
@@ -123,11 +123,6 @@ bits-below (negsuc n) h = omega arith
 pub bits-above : (x : ℤ) → down x ≤ 0 → up x ≡ bits32 x
 bits-above (pos n) h = refl
 bits-above (negsuc n) h = absurd (omega arith)
-
--- a number is what its bits stand for
-pub twos-bits : (x : ℤ) → SFits w32 x → twos 2147483648 (bits32 x) ≡ x
-twos-bits (pos n) h = rw (lt-ltb n 2147483648 (omega arith))
-twos-bits (negsuc n) h = rw (le-ltb (4294967295 - n) 2147483648 (omega arith)) (is-down (4294967295 - n) 4294967296 n (omega arith))
 
 pub less-one : (k : ℕ) → negℤ (pos k) -ℤ pos 1 ≡ negsuc k
 less-one zero = refl

@@ -1,18 +1,17 @@
 -- Whole numbers, and zero: no divisor needs to be looked for. Assumes nothing.
-use mathlib.Core.Path.{_≡_, refl, sym, _∙_, ap, ap₂}
+use mathlib.Core.Path.{_≡_, _∙_, ap}
 use mathlib.Core.Bool.{Bool, true, false}
 use Prim.Native.Nat.{ℕ, suc, _*_, _%_, _<_, _≤_}
 use native.Mathlib.Nat.{mul-one}
 use native.Mathlib.Omega.{arith}
 use borrow.Author.Tests.{le-leb, lt-leb, ltb-true, ltb-false}
-use lib.Dec.{ltb}
 use lib.IntN.{ℤ, pos, negsuc, negℤ, natAbs, _+ℤ_, _-ℤ_, _*ℤ_}
 use lib.Signed.{ltZ}
 use mir.Syntax.{w32}
 use mir.Val.{SFits}
 use Rattle.dimension.specs.Gcd.{gcd}
 use Rattle.dimension.specs.Integer.{signed}
-use Rattle.dimension.specs.Fraction.{ratio, zero, lowest, within, limited, answer, sum, difference, product, Reduced}
+use Rattle.dimension.specs.Fraction.{ratio, zero, lowest, within, limited, answer, sum, difference, product}
 use Rattle.dimension.specs.declared.rational.Rational.{Rational}
 use Rattle.dimension.specs.declared.rational.Ratio.the-variants.{Is, Over}
 use Rattle.dimension.proofs.Euclid.{gcd-zero, gcd-step}

@@ -3,7 +3,9 @@
 use mathlib.Core.Bool.{Bool, true, false, _&&_}
 use mathlib.Core.List.{List, [], _∷_, zipWith, map}
 use mathlib.Core.Option.{Option, some, none}
-use lib.ListN.{replicate}
+use mathlib.Core.Path.{_≡_}
+use Prim.Native.Nat.{ℕ, _<_}
+use lib.ListN.{length, getD, replicate}
 use Rattle.laws.specs.Options.{found}
 use Rattle.dimension.specs.Fraction as F
 use Rattle.dimension.specs.declared.rational.Rational.{Rational}
@@ -56,7 +58,16 @@ unfoldable pub equal : Dimensions → Dimensions → Bool
 equal a b = alike (a .powers) (b .powers)
 
 -- ---- what the laws speak of
--- P of each exponent
-abbrev pub Each : (Rational → Type 0) → List Rational → Type 0
-Each P [] = Unit {0}
-Each P (a ∷ l) = P a × Each P l
+-- the exponent of base k
+abbrev pub exponent : Dimensions → ℕ → Rational
+exponent a k = getD (a .powers) k F.zero
+
+-- twelve exponents, each in lowest terms within the limits
+pub record Sound (a : Dimensions) : Type 0 where
+  pub twelve : length (a .powers) ≡ 12
+  pub proper : (k : ℕ) → k < 12 → F.Proper (exponent a k)
+
+-- twelve that a catalog can declare
+pub record Declared (a : Dimensions) : Type 0 where
+  pub twelve : length (a .powers) ≡ 12
+  pub declared : (k : ℕ) → k < 12 → F.Declared (exponent a k)

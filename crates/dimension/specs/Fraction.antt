@@ -69,6 +69,23 @@ unfoldable pub declared : Rational → Bool
 declared a = leb (natAbs (a .num)) 32768 && ltb 0 (a .den) && leb (a .den) 32767 && eqb (gcd (natAbs (a .num)) (a .den)) 1
 
 -- ---- what the laws speak of
+-- r is the sum, difference, product or opposite: in ℤ, multiplied across
+abbrev pub IsSum : Rational → Rational → Rational → Type 0
+IsSum a b r = r .num *ℤ pos (a .den * b .den) ≡ (a .num *ℤ pos (b .den) +ℤ b .num *ℤ pos (a .den)) *ℤ pos (r .den)
+
+abbrev pub IsDifference : Rational → Rational → Rational → Type 0
+IsDifference a b r = r .num *ℤ pos (a .den * b .den) ≡ (a .num *ℤ pos (b .den) -ℤ b .num *ℤ pos (a .den)) *ℤ pos (r .den)
+
+abbrev pub IsProduct : Rational → Rational → Rational → Type 0
+IsProduct a b r = r .num *ℤ pos (a .den * b .den) ≡ a .num *ℤ b .num *ℤ pos (r .den)
+
+abbrev pub IsOpposite : Rational → Rational → Type 0
+IsOpposite a r = r .num *ℤ pos (a .den) ≡ negℤ (a .num) *ℤ pos (r .den)
+
+-- a and b are one number
+abbrev pub SameValue : Rational → Rational → Type 0
+SameValue a b = a .num *ℤ pos (b .den) ≡ b .num *ℤ pos (a .den)
+
 -- in lowest terms
 pub record Reduced (a : Rational) : Type 0 where
   pub coprime : gcd (natAbs (a .num)) (a .den) ≡ 1

@@ -1,10 +1,10 @@
 -- A list written over the front of another, element by element. Assumes nothing.
-use Prim.Native.Nat.{ℕ, suc, _+_, _-_, _<_, _≤_}
-use mathlib.Core.Path.{_≡_, refl, sym, _∙_, ap}
+use Prim.Native.Nat.{ℕ, _+_, _<_, _≤_}
+use mathlib.Core.Path.{_≡_, sym}
 use mathlib.Core.List.{List, [], _∷_, _++_, append-assoc}
 use native.Mathlib.Numerals.{add-one}
 use native.Mathlib.Omega.{arith}
-use lib.ListN.{length, set, drop, length-append, length-drop}
+use lib.ListN.{length, set, length-append, length-drop}
 use lib.Seq.{drop-cons, set-at}
 use Rattle.laws.specs.Ranges.{overlay}
 

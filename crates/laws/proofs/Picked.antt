@@ -1,7 +1,7 @@
 -- The laws of `picked`: a loop that counts those that pass, and one that writes them over the front of a lent list. `c` is how many there are
 -- below i, b the code's test at i, and t the lent list, t₀ as it was at first. Assumes nothing.
 use Prim.Native.Nat.{ℕ, zero, suc, _+_, _<_, _≤_}
-use mathlib.Core.Path.{_≡_, refl, sym, _∙_, ap}
+use mathlib.Core.Path.{_≡_, refl}
 use mathlib.Core.Bool.{Bool, true, false}
 use mathlib.Core.List.{List, [], _∷_, _++_}
 use native.Mathlib.Nat.{le-antisymm}

@@ -1,7 +1,7 @@
 -- The laws of `tab`: a loop that writes a lent list by a rule, from its front (`writes`), and one that fills an array (`fills`).
 -- Assumes nothing.
 use Prim.Native.Nat.{ℕ, zero, suc, _+_, _<_, _≤_}
-use mathlib.Core.Path.{_≡_, refl, sym, _∙_, ap, ap₂}
+use mathlib.Core.Path.{_≡_, refl, sym, _∙_, ap₂}
 use mathlib.Core.Logic.{⊎-elim}
 use mathlib.Core.List.{List, [], _∷_, _++_}
 use native.Mathlib.Nat.{le-antisymm, not-suc-le-zero, le-of-suc-le-suc, eq-or-lt-of-le}

@@ -1,6 +1,6 @@
--- `dimension::each` meets its contract. The loop's invariant: the first i answers are made, and each is within the limits.
+-- `dimension::dimensions::each` meets its contract. The loop's invariant: the first i answers are made, and each is within the limits.
 -- Assumes nothing.
-use mathlib.Core.Path.{_≡_, refl, sym, _∙_, ap}
+use mathlib.Core.Path.{_≡_, refl, sym, _∙_}
 use mathlib.Core.List.{List, zipWith}
 use mathlib.Core.Option.{some}
 use Prim.Native.Nat.{ℕ, _≤_, _<_, _-_}
@@ -12,14 +12,9 @@ use Rattle.dimension.specs.Dimension as D
 use Rattle.dimension.specs.declared.rational.Rational.{Rational}
 use Rattle.dimension.specs.declared.rational.Ratio.{Ratio}
 use Rattle.dimension.specs.declared.rational.Ratio.the-variants.{Over}
-use Rattle.dimension.specs.declared.dimensions.Outcome.{Outcome}
 use Rattle.dimension.proofs.Places.{zip-at, zip-length, more, ends-over, ends-within}
 use Rattle.dimension.proofs.dimensions.each.Statement.{statement}
 use Rattle.dimension.proofs.dimensions.each.Tie as tie
-use Rattle.dimension.proofs.dimensions.each.Reads as reads
-use Rattle.dimension.proofs.dimensions.each.Lts as lts
-use Rattle.dimension.proofs.dimensions.Dimensions.one.Reads as one-reads
-use Rattle.dimension.proofs.dimensions.applied.Reads as applied-reads
 
 abbrev Inv-loop : tie.InvT-loop
 Inv-loop rule a b out₀ i₀ out i =
@@ -54,36 +49,6 @@ module _ (c : tie.Start Inv-loop μ-loop) where
 loop-holds : tie.Need-loop-holds Inv-loop μ-loop
 loop-holds c = (omega arith, length-a c, refl)
 
-mul-x : tie.Need-mul-x Inv-loop μ-loop
-mul-x c = omega arith
-
-element-copy-out-x : tie.Need-element-copy-out-x Inv-loop μ-loop
-element-copy-out-x c = omega arith
-
-mul-y : tie.Need-mul-y Inv-loop μ-loop
-mul-y c = omega arith
-
-element-copy-out-y : tie.Need-element-copy-out-y Inv-loop μ-loop
-element-copy-out-y c = omega arith
-
-applied-requires : tie.Need-applied-requires Inv-loop μ-loop
-applied-requires c κs = search needs
-
-enum-known-z : tie.Need-enum-known-z Inv-loop μ-loop
-enum-known-z c = search needs
-
-mul-z : tie.Need-mul-z Inv-loop μ-loop
-mul-z c = omega arith
-
-element-set-from-z : tie.Need-element-set-from-z Inv-loop μ-loop
-element-set-from-z c = omega arith
-
-enum-told : tie.Need-enum-told Inv-loop μ-loop
-enum-told c = search needs
-
-one-requires : tie.Need-one-requires Inv-loop μ-loop
-one-requires c κs = search needs
-
 returns : tie.Need-returns Inv-loop μ-loop
 returns c =
     let s = c .before .before .before .before .before .before .before .before in
@@ -91,12 +56,6 @@ returns c =
     rw (c .one .ensures)
     (ends-over Over (answers s) i (omega (arith, length-answers s))
     (answers-at s _ i (omega arith) ∙ sym (c .before .before .before .applied .ensures) ∙ c .before .enum-told .given .1))
-
-add-i : tie.Need-add-i Inv-loop μ-loop
-add-i c = omega arith
-
-loop-less : tie.Need-loop-less Inv-loop μ-loop
-loop-less c = omega arith
 
 loop-again : tie.Need-loop-again Inv-loop μ-loop
 loop-again c =
@@ -115,24 +74,4 @@ returns-2 c =
     ends-within (l .out) (answers s) (l .i) (omega arith) (omega (arith, length-answers s)) (l .inv .2)
 
 pub each-spec : {M : Type 1} → statement M
-each-spec =
-    tie.close
-    (tie.spec
-    Inv-loop
-    μ-loop
-    loop-holds
-    mul-x
-    element-copy-out-x
-    mul-y
-    element-copy-out-y
-    applied-requires
-    enum-known-z
-    mul-z
-    element-set-from-z
-    enum-told
-    one-requires
-    returns
-    add-i
-    loop-less
-    loop-again
-    returns-2)
+each-spec = tie.close (tie.spec Inv-loop μ-loop loop-holds (search needs) (search needs) (search needs) (search needs) (search needs) (search needs) (search needs) (search needs) (search needs) (search needs) returns (search needs) (search needs) loop-again returns-2)

@@ -6,18 +6,6 @@ use Rattle.dimension.proofs.GradeLaws.{by-rule}
 use Rattle.dimension.proofs.grade.entry.Statement.{statement}
 use Rattle.dimension.proofs.grade.entry.Tie as tie
 
-enum-told : tie.Need-enum-told
-enum-told c = search needs
-
-enum-told-2 : tie.Need-enum-told-2
-enum-told-2 c = search needs
-
-enum-told-3 : tie.Need-enum-told-3
-enum-told-3 c = search needs
-
-enum-told-4 : tie.Need-enum-told-4
-enum-told-4 c = search needs
-
 returns : tie.Need-returns
 returns c = rw (c .enum-told .given .1) (by-rule Mul (c .before .before .args .i) (c .before .before .pre))
 
@@ -31,6 +19,4 @@ returns-4 : tie.Need-returns-4
 returns-4 c = rw (c .enum-told4 .given .1) (by-rule Wedge (c .before .before .args .i) (c .before .before .pre))
 
 pub entry-spec : {M : Type 1} → statement M
-entry-spec =
-    tie.close
-    (tie.spec enum-told (search needs) enum-told-2 (search needs) enum-told-3 (search needs) enum-told-4 (search needs) returns returns-2 returns-3 returns-4)
+entry-spec = tie.close (tie.spec (search needs) (search needs) (search needs) (search needs) (search needs) (search needs) (search needs) (search needs) returns returns-2 returns-3 returns-4)

@@ -1,18 +1,12 @@
 -- `dimension::grade::power_grade` meets its contract.
 -- Assumes nothing.
-use mathlib.Core.Path.{_≡_, sym, _∙_}
+use mathlib.Core.Path.{sym, _∙_}
 use borrow.Author.Needs.{needs}
 use borrow.Author.Tests.{ne-eqb}
 use Rattle.dimension.specs.Grade as G
 use Rattle.dimension.proofs.GradeLaws.{power-one}
 use Rattle.dimension.proofs.grade.power_grade.Statement.{statement}
 use Rattle.dimension.proofs.grade.power_grade.Tie as tie
-
-is-one-requires : tie.Need-is-one-requires
-is-one-requires c κs = search needs
-
-graded-requires : tie.Need-graded-requires
-graded-requires c κs = search needs
 
 returns : tie.Need-returns
 returns c =
@@ -28,4 +22,4 @@ unfolding G.power
 returns-3 c = rw (← c .before .before .is-one .ensures, c .before .if1 .left, ne-eqb _ 0 (c .if2 .left))
 
 pub power-grade-spec : {M : Type 1} → statement M
-power-grade-spec = tie.close (tie.spec is-one-requires graded-requires returns returns-2 returns-3)
+power-grade-spec = tie.close (tie.spec (search needs) (search needs) returns returns-2 returns-3)

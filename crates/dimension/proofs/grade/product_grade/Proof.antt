@@ -11,12 +11,6 @@ use Rattle.dimension.proofs.GradeLaws.{product-rule}
 use Rattle.dimension.proofs.grade.product_grade.Statement.{statement}
 use Rattle.dimension.proofs.grade.product_grade.Tie as tie
 
-entry-requires : tie.Need-entry-requires
-entry-requires c κs = search needs
-
-graded-requires : tie.Need-graded-requires
-graded-requires c κs = search needs
-
 returns : tie.Need-returns
 returns c =
     let s = c .before .before .before .before in
@@ -38,4 +32,4 @@ unfolding G.product
 returns-3 c = rw (lt-leb _ _ (c .if1 .left))
 
 pub product-grade-spec : {M : Type 1} → statement M
-product-grade-spec = tie.close (tie.spec (search needs) (search needs) entry-requires graded-requires returns returns-2 returns-3)
+product-grade-spec = tie.close (tie.spec (search needs) (search needs) (search needs) (search needs) returns returns-2 returns-3)

@@ -1,30 +1,13 @@
--- `dimension::bits32` meets its contract.
+-- `dimension::integer::bits32` meets its contract.
 -- Assumes nothing.
 use mathlib.Core.Path.{_≡_}
 use mir.Syntax.{w32}
 use mir.ValLaws.{toZ-ofZ}
 use Rattle.dimension.specs.Integer as D
-use Rattle.dimension.specs.Fraction as F
 use Rattle.dimension.proofs.Signs.{bits-below, bits-above}
 use borrow.Author.Needs.{needs}
 use Rattle.dimension.proofs.integer.bits32.Statement.{statement}
 use Rattle.dimension.proofs.integer.bits32.Tie as tie
-use Rattle.dimension.proofs.integer.bits32.Reads as reads
-use Rattle.dimension.proofs.integer.bits32.Lts as lts
-use Rattle.dimension.proofs.integer.down.Reads as down-reads
-use Rattle.dimension.proofs.integer.up.Reads as up-reads
-
-down-requires : tie.Need-down-requires
-down-requires c κs = search needs
-
-sub-result : tie.Need-sub-result
-sub-result c = search needs
-
-sub-result-2 : tie.Need-sub-result-2
-sub-result-2 c = search needs
-
-up-requires : tie.Need-up-requires
-up-requires c κs = search needs
 
 returns : tie.Need-returns
 returns c =
@@ -41,5 +24,4 @@ returns-2 c =
     cc (bits-above (s .args .x) (rw d at (c .before .if1 .left)))
 
 pub bits32-spec : {M : Type 1} → statement M
-bits32-spec =
-    tie.close (tie.spec down-requires sub-result sub-result-2 up-requires returns returns-2)
+bits32-spec = tie.close (tie.spec (search needs) (search needs) (search needs) (search needs) returns returns-2)

@@ -1,4 +1,4 @@
--- `dimension::cross` meets its contract.
+-- `dimension::integer::cross` meets its contract.
 -- Assumes nothing.
 use Prim.Native.Nat.{_*_, _≤_}
 use native.Mathlib.Nat.{mul-le-mul, le-pred-of-lt}
@@ -6,8 +6,6 @@ use native.Mathlib.Omega.{arith}
 use borrow.Author.Needs.{needs}
 use Rattle.dimension.proofs.integer.cross.Statement.{statement}
 use Rattle.dimension.proofs.integer.cross.Tie as tie
-use Rattle.dimension.proofs.integer.cross.Reads as reads
-use Rattle.dimension.proofs.integer.cross.Lts as lts
 
 first : (c : tie.Start) → c .args .a * c .args .b ≤ 2147483648 * 4294967295
 first c = mul-le-mul (c .pre .0) (le-pred-of-lt (c .fits .b .fits))
@@ -24,8 +22,5 @@ mul-result-2 c = omega (arith, second c)
 add-result : tie.Need-add-result
 add-result c = omega (arith, first c, second c)
 
-returns : tie.Need-returns
-returns c = search needs
-
 pub cross-spec : {M : Type 1} → statement M
-cross-spec = tie.close (tie.spec mul-result mul-result-2 add-result returns)
+cross-spec = tie.close (tie.spec mul-result mul-result-2 add-result (search needs))

@@ -1,4 +1,4 @@
--- `dimension::down` meets its contract.
+-- `dimension::integer::down` meets its contract.
 -- Assumes nothing.
 use mir.Syntax.{w32, w64}
 use mir.ValLaws.{toZ-ofZ}
@@ -6,8 +6,6 @@ use native.Mathlib.Omega.{arith}
 use Rattle.dimension.proofs.Signs.{wide, neg-is, wide-neg, below-nonNeg, below-size, below-down, above-down}
 use Rattle.dimension.proofs.integer.down.Statement.{statement}
 use Rattle.dimension.proofs.integer.down.Tie as tie
-use Rattle.dimension.proofs.integer.down.Reads as reads
-use Rattle.dimension.proofs.integer.down.Lts as lts
 
 cast-result : tie.Need-cast-result
 cast-result c =

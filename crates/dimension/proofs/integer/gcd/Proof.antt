@@ -1,15 +1,13 @@
--- `dimension::gcd` meets its contract: each turn keeps the divisor of the two numbers. The measure is the second of them.
+-- `dimension::integer::gcd` meets its contract: each turn keeps the divisor of the two numbers. The measure is the second of them.
 -- Assumes nothing.
 use mathlib.Core.Path.{_≡_, refl, sym, _∙_, ap}
-use Prim.Native.Nat.{ℕ}
 use native.Mathlib.Nat.{mod-lt}
 use native.Mathlib.Omega.{arith}
+use borrow.Author.Needs.{needs}
 use Rattle.dimension.specs.Gcd as G
 use Rattle.dimension.proofs.Euclid.{gcd-zero, gcd-step}
 use Rattle.dimension.proofs.integer.gcd.Statement.{statement}
 use Rattle.dimension.proofs.integer.gcd.Tie as tie
-use Rattle.dimension.proofs.integer.gcd.Reads as reads
-use Rattle.dimension.proofs.integer.gcd.Lts as lts
 
 abbrev Inv-loop : tie.InvT-loop
 Inv-loop a b x₀ y₀ x y = G.gcd x y ≡ G.gcd a b
@@ -19,9 +17,6 @@ abbrev μ-loop : tie.MeasureT-loop
 
 loop-holds : tie.Need-loop-holds Inv-loop μ-loop
 loop-holds c = refl
-
-rem-t : tie.Need-rem-t Inv-loop μ-loop
-rem-t c = omega arith
 
 loop-less : tie.Need-loop-less Inv-loop μ-loop
 loop-less c = mod-lt (c .before .loop .x) (omega arith)
@@ -33,4 +28,4 @@ returns : tie.Need-returns Inv-loop μ-loop
 returns c = sym (gcd-zero (c .before .loop .x)) ∙ ap (G.gcd (c .before .loop .x)) (sym (c .loop-test .left)) ∙ c .before .loop .inv
 
 pub gcd-spec : {M : Type 1} → statement M
-gcd-spec = tie.close (tie.spec Inv-loop μ-loop loop-holds rem-t loop-less loop-again returns)
+gcd-spec = tie.close (tie.spec Inv-loop μ-loop loop-holds (search needs) loop-less loop-again returns)

@@ -1,28 +1,19 @@
--- `dimension::signed` meets its contract.
+-- `dimension::integer::signed` meets its contract.
 -- Assumes nothing.
-use mir.Syntax.{w32, w64}
+use mir.Syntax.{w32}
 use mir.ValLaws.{toZ-ofZ, toZ-pos}
-use lib.IntN.{pos, negℤ}
-use mathlib.Core.Bool.{true, false}
+use lib.IntN.{pos}
+use mathlib.Core.Bool.{true}
 use native.Mathlib.Omega.{arith}
 use borrow.Author.Needs.{needs}
-use Rattle.dimension.specs.Fraction as F
 use Rattle.dimension.proofs.Signs.{neg-is, signed-fits}
 use Rattle.dimension.proofs.integer.signed.Statement.{statement}
 use Rattle.dimension.proofs.integer.signed.Tie as tie
-use Rattle.dimension.proofs.integer.signed.Reads as reads
-use Rattle.dimension.proofs.integer.signed.Lts as lts
-
-cast-result : tie.Need-cast-result
-cast-result c = search needs
 
 sub-result : tie.Need-sub-result
 sub-result c =
     let n = c .before .args .x in
     rw (toZ-pos w32 n (omega arith), neg-is (pos n)) (signed-fits true n (c .before .pre))
-
-cast-result-2 : tie.Need-cast-result-2
-cast-result-2 c = search needs
 
 returns : tie.Need-returns
 returns c =
@@ -35,4 +26,4 @@ returns-2 c =
     rw (c .if1 .left) (toZ-pos w32 n (omega arith))
 
 pub signed-spec : {M : Type 1} → statement M
-signed-spec = tie.close (tie.spec cast-result sub-result cast-result-2 returns returns-2)
+signed-spec = tie.close (tie.spec (search needs) sub-result (search needs) returns returns-2)

@@ -1,8 +1,8 @@
--- `dimension::signed16` meets its contract.
+-- `dimension::integer::signed16` meets its contract.
 -- Assumes nothing.
-use mathlib.Core.Path.{_≡_, sym, _∙_, subst}
-use Prim.Native.Nat.{_-_}
+use mathlib.Core.Path.{sym, _∙_, subst}
 use borrow.Author.Tests.{le-ltb}
+use Prim.Native.Nat.{_-_}
 use native.Mathlib.Omega.{arith}
 use lib.IntN.{negsuc}
 use mir.Syntax.{w32}
@@ -13,14 +13,6 @@ use Rattle.dimension.proofs.Signs.{twos-low}
 use borrow.Author.Needs.{needs}
 use Rattle.dimension.proofs.integer.signed16.Statement.{statement}
 use Rattle.dimension.proofs.integer.signed16.Tie as tie
-use Rattle.dimension.proofs.integer.signed16.Reads as reads
-use Rattle.dimension.proofs.integer.signed16.Lts as lts
-
-cast-result : tie.Need-cast-result
-cast-result c = search needs
-
-cast-result-2 : tie.Need-cast-result-2
-cast-result-2 c = search needs
 
 sub-result : tie.Need-sub-result
 sub-result c =
@@ -39,4 +31,4 @@ returns-2 c =
     (toZ-ofZ w32 (negsuc (65535 - x)) (record { sfits = omega arith }))
 
 pub signed16-spec : {M : Type 1} → statement M
-signed16-spec = tie.close (tie.spec cast-result cast-result-2 sub-result returns returns-2)
+signed16-spec = tie.close (tie.spec (search needs) (search needs) sub-result returns returns-2)

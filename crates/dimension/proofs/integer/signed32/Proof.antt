@@ -1,6 +1,6 @@
--- `dimension::signed32` meets its contract.
+-- `dimension::integer::signed32` meets its contract.
 -- Assumes nothing.
-use mathlib.Core.Path.{_≡_, sym, _∙_, subst}
+use mathlib.Core.Path.{_∙_}
 use mathlib.Core.Bool.{true}
 use Prim.Native.Nat.{_-_}
 use native.Mathlib.Omega.{arith}
@@ -11,17 +11,6 @@ use Rattle.dimension.proofs.Signs.{neg-is, signed-fits, less-one, twos-
 use borrow.Author.Needs.{needs}
 use Rattle.dimension.proofs.integer.signed32.Statement.{statement}
 use Rattle.dimension.proofs.integer.signed32.Tie as tie
-use Rattle.dimension.proofs.integer.signed32.Reads as reads
-use Rattle.dimension.proofs.integer.signed32.Lts as lts
-
-cast-result : tie.Need-cast-result
-cast-result c = search needs
-
-sub-result : tie.Need-sub-result
-sub-result c = search needs
-
-cast-result-2 : tie.Need-cast-result-2
-cast-result-2 c = search needs
 
 sub-result-2 : tie.Need-sub-result-2
 sub-result-2 c =
@@ -46,6 +35,4 @@ returns-2 c =
     (toZ-ofZ w32 (negsuc k) (record { sfits = omega arith }) ∙ twos-high 2147483648 x k (c .if1 .left) (omega arith))
 
 pub signed32-spec : {M : Type 1} → statement M
-signed32-spec =
-    tie.close
-    (tie.spec cast-result sub-result cast-result-2 sub-result-2 sub-result-3 returns returns-2)
+signed32-spec = tie.close (tie.spec (search needs) (search needs) (search needs) sub-result-2 sub-result-3 returns returns-2)

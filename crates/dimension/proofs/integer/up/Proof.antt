@@ -1,4 +1,4 @@
--- `dimension::up` meets its contract.
+-- `dimension::integer::up` meets its contract.
 -- Assumes nothing.
 use mir.Syntax.{w32}
 use mir.ValLaws.{toZ-ofZ}
@@ -6,8 +6,6 @@ use native.Mathlib.Omega.{arith}
 use Rattle.dimension.proofs.Signs.{below-up, above-nonNeg, above-size, above-up}
 use Rattle.dimension.proofs.integer.up.Statement.{statement}
 use Rattle.dimension.proofs.integer.up.Tie as tie
-use Rattle.dimension.proofs.integer.up.Reads as reads
-use Rattle.dimension.proofs.integer.up.Lts as lts
 
 cast-result : tie.Need-cast-result
 cast-result c =

@@ -1,4 +1,4 @@
--- `dimension::limited` meets its contract: each return rewrites by the tests that led there.
+-- `dimension::rational::limited` meets its contract: each return rewrites by the tests that led there.
 -- Assumes nothing.
 use mir.Syntax.{w32}
 use mir.ValLaws.{toZ-ofZ}
@@ -9,15 +9,6 @@ use borrow.Author.Tests.{le-leb, lt-leb, le-ltb, lt-ltb}
 use Rattle.dimension.specs.Fraction as F
 use Rattle.dimension.proofs.rational.limited.Statement.{statement}
 use Rattle.dimension.proofs.rational.limited.Tie as tie
-use Rattle.dimension.proofs.rational.limited.Reads as reads
-use Rattle.dimension.proofs.rational.limited.Lts as lts
-use Rattle.dimension.proofs.integer.signed.Reads as signed-reads
-
-signed-requires : tie.Need-signed-requires
-signed-requires c κs = search needs
-
-cast-t8 : tie.Need-cast-t8
-cast-t8 c = search needs
 
 returns : tie.Need-returns
 unfolding F.limited F.within
@@ -42,4 +33,4 @@ unfolding F.limited F.within
 returns-4 c = simp (le-ltb _ _ (c .if1 .left), and-false)
 
 pub limited-spec : {M : Type 1} → statement M
-limited-spec = tie.close (tie.spec signed-requires cast-t8 returns returns-2 returns-3 returns-4)
+limited-spec = tie.close (tie.spec (search needs) (search needs) returns returns-2 returns-3 returns-4)

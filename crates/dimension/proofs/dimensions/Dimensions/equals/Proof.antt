@@ -1,6 +1,6 @@
--- `dimension::Dimensions::equals` meets its contract. The loop's invariant: the first i exponents are equal.
+-- `dimension::dimensions::Dimensions::equals` meets its contract. The loop's invariant: the first i exponents are equal.
 -- Assumes nothing.
-use mathlib.Core.Path.{_≡_, refl, sym, _∙_, ap}
+use mathlib.Core.Path.{_≡_, refl, sym, _∙_}
 use mathlib.Core.Bool.{true}
 use Prim.Native.Nat.{_≤_, _-_}
 use native.Mathlib.Numerals.{add-one}
@@ -8,14 +8,10 @@ use native.Mathlib.Omega.{arith}
 use borrow.Author.Needs.{needs}
 use borrow.Author.Tests.{not-true, not-false}
 use lib.ListN.{length, take, length-map}
-use Rattle.dimension.specs.Fraction as F
 use Rattle.dimension.specs.Dimension as D
 use Rattle.dimension.proofs.Places.{equal-more, equal-not, equal-all}
 use Rattle.dimension.proofs.dimensions.Dimensions.equals.Statement.{statement}
 use Rattle.dimension.proofs.dimensions.Dimensions.equals.Tie as tie
-use Rattle.dimension.proofs.dimensions.Dimensions.equals.Reads as reads
-use Rattle.dimension.proofs.dimensions.Dimensions.equals.Lts as lts
-use Rattle.dimension.proofs.rational.Rational.equals.Reads as equals-reads
 
 abbrev Inv-loop : tie.InvT-loop
 Inv-loop self other i₀ i = (i ≤ 12) × (D.alike (take i (self .powers)) (take i (other .powers)) ≡ true)
@@ -32,33 +28,12 @@ length-other c = sym (length-map (c .args .t2 .powers) _) ∙ c .good .1 .0 .1 .
 loop-holds : tie.Need-loop-holds Inv-loop μ-loop
 loop-holds c = (omega arith, refl)
 
-mul-a : tie.Need-mul-a Inv-loop μ-loop
-mul-a c = omega arith
-
-element-copy-out-a : tie.Need-element-copy-out-a Inv-loop μ-loop
-element-copy-out-a c = omega arith
-
-mul-b : tie.Need-mul-b Inv-loop μ-loop
-mul-b c = omega arith
-
-element-copy-out-b : tie.Need-element-copy-out-b Inv-loop μ-loop
-element-copy-out-b c = omega arith
-
-equals-requires : tie.Need-equals-requires Inv-loop μ-loop
-equals-requires c κs = search needs
-
 returns : tie.Need-returns Inv-loop μ-loop
 unfolding D.equal
 returns c =
     let s = c .before .before .before .before .before .before in
     let i = c .before .before .before .before .before .loop .i in
     sym (equal-not _ (s .args .t1 .powers) (s .args .t2 .powers) i (omega (arith, length-self s)) (omega (arith, length-other s)) (sym (c .before .equals .ensures) ∙ not-true _ (c .if1 .taken)))
-
-add-i : tie.Need-add-i Inv-loop μ-loop
-add-i c = omega arith
-
-loop-less : tie.Need-loop-less Inv-loop μ-loop
-loop-less c = omega arith
 
 loop-again : tie.Need-loop-again Inv-loop μ-loop
 loop-again c =
@@ -74,19 +49,4 @@ returns-2 c =
     sym (equal-all (s .args .t1 .powers) (s .args .t2 .powers) (l .i) (omega (arith, length-self s)) (omega (arith, length-other s)) (l .inv .1))
 
 pub equals-spec : {M : Type 1} → statement M
-equals-spec =
-    tie.close
-    (tie.spec
-    Inv-loop
-    μ-loop
-    loop-holds
-    mul-a
-    element-copy-out-a
-    mul-b
-    element-copy-out-b
-    equals-requires
-    returns
-    add-i
-    loop-less
-    loop-again
-    returns-2)
+equals-spec = tie.close (tie.spec Inv-loop μ-loop loop-holds (search needs) (search needs) (search needs) (search needs) (search needs) returns (search needs) (search needs) loop-again returns-2)

@@ -1,4 +1,4 @@
--- `dimension::Dimensions::pow` meets its contract: the exponent stands at every place.
+-- `dimension::dimensions::Dimensions::pow` meets its contract: the exponent stands at every place.
 -- Assumes nothing.
 use mathlib.Core.Path.{sym, _∙_, ap}
 use lib.ListN.{length-map}
@@ -8,15 +8,7 @@ use Rattle.dimension.proofs.Places.{zip-repeat}
 use borrow.Author.Needs.{needs}
 use Rattle.dimension.proofs.dimensions.Dimensions.pow.Statement.{statement}
 use Rattle.dimension.proofs.dimensions.Dimensions.pow.Tie as tie
-use Rattle.dimension.proofs.dimensions.Dimensions.pow.Reads as reads
-use Rattle.dimension.proofs.dimensions.Dimensions.pow.Lts as lts
-use Rattle.dimension.proofs.dimensions.each.Reads as each-reads
 
--- src/lib.rt:261:9
-each-requires : tie.Need-each-requires
-each-requires c κs = search needs
-
--- src/lib.rt:257:5
 returns : tie.Need-returns
 unfolding D.power
 returns c =
@@ -26,4 +18,4 @@ returns c =
     ∙ ap D.outcome (zip-repeat F.product 12 (s .args .exponent) (a .powers) (sym (length-map (a .powers) _) ∙ s .good .0 .1 .1 .0 .1 .0 .1))
 
 pub pow-spec : {M : Type 1} → statement M
-pow-spec = tie.close (tie.spec each-requires returns)
+pow-spec = tie.close (tie.spec (search needs) returns)

@@ -5,12 +5,9 @@ use Rattle.dimension.specs.Dimension as D
 use Rattle.dimension.proofs.dimensions.Dimensions.product.Statement.{statement}
 use Rattle.dimension.proofs.dimensions.Dimensions.product.Tie as tie
 
-each-requires : tie.Need-each-requires
-each-requires c κs = search needs
-
 returns : tie.Need-returns
 unfolding D.product
 returns c = c .each .ensures
 
 pub product-spec : {M : Type 1} → statement M
-product-spec = tie.close (tie.spec each-requires returns)
+product-spec = tie.close (tie.spec (search needs) returns)

@@ -5,12 +5,9 @@ use Rattle.dimension.specs.Dimension as D
 use Rattle.dimension.proofs.dimensions.Dimensions.quotient.Statement.{statement}
 use Rattle.dimension.proofs.dimensions.Dimensions.quotient.Tie as tie
 
-each-requires : tie.Need-each-requires
-each-requires c κs = search needs
-
 returns : tie.Need-returns
 unfolding D.quotient
 returns c = c .each .ensures
 
 pub quotient-spec : {M : Type 1} → statement M
-quotient-spec = tie.close (tie.spec each-requires returns)
+quotient-spec = tie.close (tie.spec (search needs) returns)

@@ -16,12 +16,6 @@ fits-self c = search needs
 fits-other : (c : tie.Start) → SFits w32 (c .args .other .num)
 fits-other c = search needs
 
-added-requires : tie.Need-added-requires
-added-requires c κs = search needs
-
-whole-requires : tie.Need-whole-requires
-whole-requires c κs = search needs
-
 returns : tie.Need-returns
 returns c =
     let s = c .before .before .before .before .before .before .before .before in
@@ -31,8 +25,5 @@ returns c =
     rw (e, toZ-ofZ w64 _ (sum-fits (a .num) (b .num) (fits-self s) (fits-other s))) at (c .whole .ensures)
     ∙ whole-sum a b (c .before .before .before .before .before .before .if1 .taken) (c .before .before .before .before .if2 .taken)
 
-sum-requires : tie.Need-sum-requires
-sum-requires c κs = search needs
-
 pub add-spec : {M : Type 1} → statement M
-add-spec = tie.close (tie.spec added-requires whole-requires returns sum-requires (λ c. c .sum .ensures))
+add-spec = tie.close (tie.spec (search needs) (search needs) returns (search needs) (λ c. c .sum .ensures))

@@ -15,9 +15,6 @@ use Rattle.dimension.proofs.rational.Rational.declared.Tie as tie
 fits : (c : tie.Start) → SFits w32 (c .args .self .num)
 fits c = search needs
 
-size-requires : tie.Need-size-requires
-size-requires c κs = search needs
-
 returns : tie.Need-returns
 unfolding F.declared
 returns c =
@@ -25,9 +22,6 @@ returns c =
     let n = toZ-ofZ w32 (s .args .self .num) (fits s) in
     let z : c .before .before .size .result ≡ natAbs (s .args .self .num) = cc in
     rw (z, c .if1 .taken, gcd-one) (simp and-true)
-
-gcd-requires : tie.Need-gcd-requires
-gcd-requires c κs = search needs
 
 returns-2 : tie.Need-returns-2
 unfolding F.declared
@@ -37,4 +31,4 @@ returns-2 c =
     cc
 
 pub declared-spec : {M : Type 1} → statement M
-declared-spec = tie.close (tie.spec size-requires returns (search needs) gcd-requires returns-2)
+declared-spec = tie.close (tie.spec (search needs) returns (search needs) (search needs) returns-2)

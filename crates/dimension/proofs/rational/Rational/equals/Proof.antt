@@ -1,4 +1,4 @@
--- `dimension::Rational::equals` meets its contract: the bits of two numbers are equal where the numbers are.
+-- `dimension::rational::Rational::equals` meets its contract: the bits of two numbers are equal where the numbers are.
 -- Assumes nothing.
 use mir.Syntax.{w32}
 use mir.Val.{SFits}
@@ -7,8 +7,6 @@ use Rattle.dimension.specs.Fraction as F
 use Rattle.dimension.proofs.Signs.{same-bits}
 use Rattle.dimension.proofs.rational.Rational.equals.Statement.{statement}
 use Rattle.dimension.proofs.rational.Rational.equals.Tie as tie
-use Rattle.dimension.proofs.rational.Rational.equals.Reads as reads
-use Rattle.dimension.proofs.rational.Rational.equals.Lts as lts
 
 fits-self : (c : tie.Start) → SFits w32 (c .args .self .num)
 fits-self c = search needs

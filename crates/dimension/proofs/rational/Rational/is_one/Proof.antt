@@ -12,9 +12,6 @@ use Rattle.dimension.proofs.rational.Rational.is_one.Tie as tie
 fits : (c : tie.Start) → SFits w32 (c .args .self .num)
 fits c = search needs
 
-up-requires : tie.Need-up-requires
-up-requires c κs = search needs
-
 returns : tie.Need-returns
 unfolding F.isOne
 returns c =
@@ -23,4 +20,4 @@ returns c =
     cc (one-test (s .args .self .num) (s .args .self .den))
 
 pub is-one-spec : {M : Type 1} → statement M
-is-one-spec = tie.close (tie.spec up-requires returns)
+is-one-spec = tie.close (tie.spec (search needs) returns)

@@ -16,12 +16,6 @@ fits-self c = search needs
 fits-other : (c : tie.Start) → SFits w32 (c .args .other .num)
 fits-other c = search needs
 
-subtracted-requires : tie.Need-subtracted-requires
-subtracted-requires c κs = search needs
-
-whole-requires : tie.Need-whole-requires
-whole-requires c κs = search needs
-
 returns : tie.Need-returns
 returns c =
     let s = c .before .before .before .before .before .before .before .before in
@@ -31,8 +25,5 @@ returns c =
     rw (e, toZ-ofZ w64 _ (difference-fits (a .num) (b .num) (fits-self s) (fits-other s))) at (c .whole .ensures)
     ∙ whole-difference a b (c .before .before .before .before .before .before .if1 .taken) (c .before .before .before .before .if2 .taken)
 
-difference-requires : tie.Need-difference-requires
-difference-requires c κs = search needs
-
 pub minus-spec : {M : Type 1} → statement M
-minus-spec = tie.close (tie.spec subtracted-requires whole-requires returns difference-requires (λ c. c .difference .ensures))
+minus-spec = tie.close (tie.spec (search needs) (search needs) returns (search needs) (λ c. c .difference .ensures))

@@ -16,12 +16,6 @@ fits-self c = search needs
 fits-other : (c : tie.Start) → SFits w32 (c .args .other .num)
 fits-other c = search needs
 
-multiplied-requires : tie.Need-multiplied-requires
-multiplied-requires c κs = search needs
-
-whole-requires : tie.Need-whole-requires
-whole-requires c κs = search needs
-
 returns : tie.Need-returns
 returns c =
     let s = c .before .before .before .before .before .before .before .before in
@@ -31,8 +25,5 @@ returns c =
     rw (e, toZ-ofZ w64 _ (product-fits (a .num) (b .num) (fits-self s) (fits-other s))) at (c .whole .ensures)
     ∙ whole-product a b (c .before .before .before .before .before .before .if1 .taken) (c .before .before .before .before .if2 .taken)
 
-product-requires : tie.Need-product-requires
-product-requires c κs = search needs
-
 pub times-spec : {M : Type 1} → statement M
-times-spec = tie.close (tie.spec multiplied-requires whole-requires returns product-requires (λ c. c .product .ensures))
+times-spec = tie.close (tie.spec (search needs) (search needs) returns (search needs) (λ c. c .product .ensures))

@@ -1,0 +1,35 @@
+-- Numbers and the bits that stand for them, by two's complement. Assumes nothing.
+use mathlib.Core.Path.{_≡_, sym, _∙_, ap}
+use Prim.Native.Nat.{ℕ, suc, _+_, _-_, _<_, _≤_}
+use native.Mathlib.Decide.{decLe}
+use native.Mathlib.Omega.{arith}
+use lib.IntN.{ℤ, pos, negsuc, natAbs}
+use mir.Syntax.{w32}
+use mir.Val.{SFits}
+use Rattle.dimension.specs.Integer.{bits32, twos}
+use Rattle.dimension.proofs.Signs.{twos-low, twos-high}
+
+-- 32 bits hold the bits of a number, and it is what they stand for
+pub bits-below : (x : ℤ) → SFits w32 x → bits32 x < 4294967296
+bits-below (pos n) h = omega arith
+bits-below (negsuc n) h = omega arith
+
+pub twos-bits : (x : ℤ) → SFits w32 x → twos 2147483648 (bits32 x) ≡ x
+twos-bits (pos n) h = sym (twos-low 2147483648 n (omega arith))
+twos-bits (negsuc n) h = sym (twos-high 2147483648 (4294967295 - n) n (omega arith) (omega arith))
+
+-- the bits of the number that bits stand for are these bits
+pub bits-twos : (x : ℕ) → x < 4294967296 → bits32 (twos 2147483648 x) ≡ x
+bits-twos x h = go (decLe 2147483648 x)
+  where
+    go : Dec (2147483648 ≤ x) → bits32 (twos 2147483648 x) ≡ x
+    go (no f) = ap bits32 (sym (twos-low 2147483648 x (omega arith)))
+    go (yes f) = ap bits32 (sym (twos-high 2147483648 x (4294967295 - x) f (omega arith))) ∙ omega arith
+
+-- a number that so many bits stand for is no further from zero than half of the patterns
+pub twos-size : (half x : ℕ) → x < half + half → natAbs (twos half x) ≤ half
+twos-size half x h = go (decLe half x)
+  where
+    go : Dec (half ≤ x) → natAbs (twos half x) ≤ half
+    go (no f) = rw (← twos-low half x (omega arith)) (omega arith)
+    go (yes f) = rw (← twos-high half x (half + half - suc x) f (omega arith)) (omega arith)
