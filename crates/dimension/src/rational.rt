@@ -115,7 +115,9 @@ fn product(a: Rational, b: Rational) -> Ratio
     let m = down(a.num);
     let p = up(b.num);
     let q = down(b.num);
-    parted(cross(n, p, m, q), cross(n, q, m, p), by(a.den, b.den))
+    let d = a.den;
+    let e = b.den;
+    parted(cross(n, p, m, q), cross(n, q, m, p), by(d, e))
 }
 
 impl Rational {
