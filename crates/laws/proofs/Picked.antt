@@ -1,7 +1,7 @@
 -- The laws of `picked`: a loop that counts those that pass, and one that writes them over the front of a lent list. `c` is how many there are
 -- below i, b the code's test at i, and t the lent list, t₀ as it was at first. Assumes nothing.
 use Prim.Native.Nat.{ℕ, zero, suc, _+_, _<_, _≤_}
-use mathlib.Core.Path.{_≡_, refl}
+use mathlib.Core.Path.{_≡_, refl, _∙_}
 use mathlib.Core.Bool.{Bool, true, false}
 use mathlib.Core.List.{List, [], _∷_, _++_}
 use native.Mathlib.Nat.{le-antisymm}
@@ -9,7 +9,7 @@ use native.Mathlib.Numerals.{add-one}
 use native.Mathlib.Omega.{arith}
 use lib.ListN.{length, set, length-append}
 use Rattle.laws.specs.Ranges.{picked, overlay}
-use Rattle.laws.proofs.Overlay.{overlay-next}
+use Rattle.laws.proofs.Overlay.{overlay-next, stored-length, kept-length}
 
 module _ (test : ℕ → Bool) where
   pub picked-yes : (i : ℕ) {b : Bool} → b ≡ test i → b ≡ true → picked test (i + 1) ≡ picked test i ++ (i ∷ [])
@@ -44,11 +44,11 @@ module _ (test : ℕ → Bool) where
   unfolding picked
   counted-none = refl
 
-  pub counted-no : (i c : ℕ) {b : Bool} → c ≡ length (picked test i) → b ≡ test i → b ≡ false → c ≡ length (picked test (i + 1))
-  counted-no i c p e f = rw (picked-no i e f) p
+  pub counted-no : (i c : ℕ) {b : Bool} {v : ℕ} → v ≡ c → c ≡ length (picked test i) → b ≡ test i → b ≡ false → v ≡ length (picked test (i + 1))
+  counted-no i c w p e f = rw (picked-no i e f) (w ∙ p)
 
-  pub counted-yes : (i c : ℕ) {b : Bool} → c ≡ length (picked test i) → b ≡ test i → b ≡ true → c + 1 ≡ length (picked test (i + 1))
-  counted-yes i c p e f = rw (picked-yes i e f, length-append) (omega (arith, p))
+  pub counted-yes : (i c : ℕ) {b : Bool} {v : ℕ} → v ≡ c + 1 → c ≡ length (picked test i) → b ≡ test i → b ≡ true → v ≡ length (picked test (i + 1))
+  counted-yes i c w p e f = rw (picked-yes i e f, length-append) (omega (arith, p))
 
   pub counted-end : (i n c : ℕ) → c ≡ length (picked test i) → i ≤ n → n ≤ i → c ≡ length (picked test n)
   counted-end i n c p l m = rw (le-antisymm m l) p
@@ -58,15 +58,15 @@ module _ (test : ℕ → Bool) where
   unfolding picked
   listed-none t = refl
 
-  pub listed-no : (i : ℕ) {t : List ℕ} (t₀ : List ℕ) {b : Bool} → t ≡ overlay (picked test i) t₀ → b ≡ test i → b ≡ false → t ≡ overlay (picked test (i + 1)) t₀
-  listed-no i t₀ p e f = rw (picked-no i e f) p
+  pub listed-no : (i : ℕ) {t v : List ℕ} (t₀ : List ℕ) {b : Bool} → v ≡ t → t ≡ overlay (picked test i) t₀ → b ≡ test i → b ≡ false → v ≡ overlay (picked test (i + 1)) t₀
+  listed-no i t₀ w p e f = rw (picked-no i e f) (w ∙ p)
 
-  pub listed-yes : (i n c : ℕ) {t : List ℕ} (t₀ : List ℕ) {b : Bool}
-      → t ≡ overlay (picked test i) t₀ → c ≡ length (picked test i) → c ≤ i → i < n → n ≤ length t₀ → b ≡ test i → b ≡ true
-      → set t c i ≡ overlay (picked test (i + 1)) t₀
-  listed-yes i n c t₀ p q l m o e f = rw (picked-yes i e f) (overlay-next (picked test i) t₀ c i p q (omega arith))
+  pub listed-yes : (i n c : ℕ) {t v : List ℕ} (t₀ : List ℕ) {b : Bool}
+      → v ≡ set t c i → t ≡ overlay (picked test i) t₀ → c ≡ length (picked test i) → i < n → n ≤ length t₀ → b ≡ test i → b ≡ true
+      → v ≡ overlay (picked test (i + 1)) t₀
+  listed-yes i n c t₀ w p q m o e f = w ∙ rw (picked-yes i e f) (overlay-next (picked test i) t₀ c i p q (omega (arith, picked-few i)))
 
   pub listed-end : (i n : ℕ) {t : List ℕ} (t₀ : List ℕ) → t ≡ overlay (picked test i) t₀ → i ≤ n → n ≤ i → t ≡ overlay (picked test n) t₀
   listed-end i n t₀ p l m = rw (le-antisymm m l) p
 
-pub ruleset picks = (counted-none, counted-no, counted-yes, counted-end, listed-none, listed-no, listed-yes, listed-end)
+pub ruleset picks = (counted-none, counted-no, counted-yes, counted-end, listed-none, listed-no, listed-yes, listed-end, stored-length, kept-length)
