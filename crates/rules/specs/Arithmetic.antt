@@ -1,0 +1,168 @@
+-- 01, 'Products, sums and powers': each in 01's order, the order of the lines.
+use Prim.Native.Nat.{ℕ}
+use mathlib.Core.Bool.{cond, not, _||_}
+use mathlib.Core.List.{List, [], _∷_}
+use mathlib.Core.Option.{Option, some, none}
+use lib.Dec.{eqb}
+use lib.ListN.{getD}
+use Rattle.laws.specs.Options.{found, orElse}
+use Rattle.laws.specs.Out.{given, refused, _>>=_, _>>_, refuseIf, needed, known}
+use Rattle.dimension.specs.Fraction as F
+use Rattle.dimension.specs.Dimension as D
+use Rattle.dimension.specs.Grade as G
+use Rattle.dimension.specs.declared.rational.Rational.{Rational}
+use Rattle.dimension.specs.declared.dimensions.Dimensions.{Dimensions}
+use Rattle.dimension.specs.declared.grade.ProductOp.{ProductOp}
+use Rattle.dimension.specs.declared.grade.ProductOp.the-variants.{Mul, Div, Dot, Wedge}
+use Rattle.dimension.specs.declared.grade.Grade.{Grade}
+use Rattle.dimension.specs.declared.grade.Grade.the-variants.{Single, Absent}
+use Rattle.rules.specs.Kinds.{Kinds, Rows, Graded, point, duration, candidates}
+use Rattle.rules.specs.Refusal.{Answer, Refusal, UnresolvedDimensions, Point, Ungraded, PowerOverLimits, KindMismatch, UnsupportedOperation, UnresolvedTwin, NoProductKind, UngradedPower, NoPowerKind, UnresolvedPowerTwin, absent, codeOf}
+
+-- 19
+unfoldable pub resolved : Kinds → ℕ → Answer Dimensions
+resolved K k = needed (K .dims k) (UnresolvedDimensions k)
+
+-- 24
+abbrev single : Grade → Refusal → Answer ℕ
+single (Single g) x = given g
+single Absent x = refused x
+
+unfoldable pub graded : Kinds → ℕ → ProductOp → ℕ → Answer ℕ
+graded K l op r = single (G.product op (K .grade l) (K .grade r)) (Ungraded l r (K .grade l) (K .grade r))
+
+-- "products add or subtract exponents"
+unfoldable pub joined : ProductOp → Dimensions → Dimensions → Dimensions
+joined Mul a b = D.product a b .value
+joined Div a b = D.quotient a b .value
+joined Dot a b = D.product a b .value
+joined Wedge a b = D.product a b .value
+
+-- "Then for a product: 19 left, 19 right, 23 left, 23 right, 24."
+unfoldable pub derive : Kinds → ℕ → ProductOp → ℕ → Answer Graded
+derive K l op r = do
+  a ← resolved K l
+  b ← resolved K r
+  refuseIf (point K l) (Point l op r l)
+  refuseIf (point K r) (Point l op r r)
+  g ← graded K l op r
+  given (record { dims = joined op a b; grade = g })
+
+-- "Then the dimensionless kind is neutral in Mul (right, then left) and as divisor, and left = right in Div gives it"
+unfoldable pub neutralBy : ProductOp → ℕ → ℕ → ℕ → Option ℕ
+neutralBy Mul o l r = cond (eqb r o) (some l) (cond (eqb l o) (some r) none)
+neutralBy Div o l r = cond (eqb r o) (some l) (cond (eqb l r) (some o) none)
+neutralBy Dot o l r = none
+neutralBy Wedge o l r = none
+
+unfoldable pub neutral : Kinds → ℕ → ProductOp → ℕ → Option ℕ
+neutral K l op r = found (K .dimensionless) (λ o. neutralBy op o l r) none
+
+-- "then a rate times duration gives its target, and the target over duration its rate"
+unfoldable pub ratedBy : Kinds → ProductOp → ℕ → ℕ → ℕ → Option ℕ
+ratedBy K Mul d l r = cond (eqb r d) (K .rateOf l) (cond (eqb l d) (K .rateOf r) none)
+ratedBy K Div d l r = cond (eqb r d) (K .rate l) none
+ratedBy K Dot d l r = none
+ratedBy K Wedge d l r = none
+
+unfoldable pub rated : Kinds → ℕ → ProductOp → ℕ → Option ℕ
+rated K l op r = found (duration K) (λ d. ratedBy K op d l r) none
+
+-- a kind; several that fit; none
+pub data Resolved : Type 0 where
+  is : ℕ → Resolved
+  twins : List ℕ → Resolved
+  nothing : Resolved
+
+-- "then one fitting non-point kind is the answer, none is 45, several need the row"
+abbrev pub fitting : List ℕ → Resolved
+fitting [] = nothing
+fitting (k ∷ []) = is k
+fitting (k ∷ m ∷ ks) = twins (k ∷ m ∷ ks)
+
+abbrev pub first-of : Option ℕ → Resolved → Resolved
+first-of o other = found o is other
+
+unfoldable pub resolve : Kinds → ℕ → ProductOp → ℕ → Graded → Resolved
+resolve K l op r x = first-of (orElse (neutral K l op r) (rated K l op r)) (fitting (candidates K x))
+
+abbrev pub settle : Resolved → Refusal → (List ℕ → Answer ℕ) → Answer ℕ
+settle (is k) x several = given k
+settle (twins ks) x several = several ks
+settle nothing x several = refused x
+
+-- "The answer reads, of all rows, only that of this very left, operation and right."
+unfoldable pub product : Kinds → Rows → ℕ → ProductOp → ℕ → Answer ℕ
+product K rows l op r = do
+  x ← derive K l op r
+  settle (resolve K l op r x) (NoProductKind x) (λ ks. known (rows l op r) (refused (UnresolvedTwin l op r ks)))
+
+-- ---- sums
+pub data Sum : Type 0 where
+  Add Sub : Sum
+
+-- 42
+abbrev pub agree : ℕ → ℕ → ℕ → Answer ℕ
+agree expected actual k = cond (eqb expected actual) (given k) (refused (KindMismatch expected actual))
+
+-- "Sum: point − same point gives the difference; point ± its difference gives the point; difference + point likewise; equal non-points give
+-- themselves." By the differences of left and right, which points alone have
+unfoldable pub sumBy : Sum → Option ℕ → Option ℕ → ℕ → ℕ → Answer ℕ
+sumBy Sub (some d) (some e) l r = agree l r d
+sumBy Add (some d) (some e) l r = refused (UnsupportedOperation 2 l r)
+sumBy s (some d) none l r = agree d r l
+sumBy Add none (some e) l r = agree e l r
+sumBy Sub none (some e) l r = refused (UnsupportedOperation 3 l r)
+sumBy s none none l r = agree l r l
+
+unfoldable pub sum : Kinds → Sum → ℕ → ℕ → Answer ℕ
+sum K s l r = sumBy s (K .difference l) (K .difference r) l r
+
+-- ---- powers
+-- "then exponent zero or the dimensionless kind gives that kind where declared"
+unfoldable pub flat : Kinds → ℕ → Rational → Option ℕ
+flat K k e = found (K .dimensionless) (λ o. cond (F.isZero e || eqb k o) (some o) none) none
+
+-- "46, 19, 28, then .., then 47 or 48"
+unfoldable pub raised : Kinds → ℕ → Rational → Answer ℕ
+raised K k e = do
+  refuseIf (not (eqb (K .grade k) 0)) (UngradedPower (K .grade k))
+  a ← resolved K k
+  refuseIf (D.power a e .over) (PowerOverLimits k)
+  settle (first-of (flat K k e) (fitting (candidates K (record { dims = D.power a e .value; grade = 0 })))) (NoPowerKind (D.power a e .value)) (λ ks. refused (UnresolvedPowerTwin ks))
+
+-- "Power: 43 (point or inexact), exponent one gives the kind". No exponent: an inexact one; the code is the token's
+unfoldable pub power : Kinds → ℕ → ℕ → Option Rational → Answer ℕ
+power K code k none = refused (UnsupportedOperation code k absent)
+power K code k (some e) = do
+  refuseIf (point K k) (UnsupportedOperation code k absent)
+  cond (F.isOne e) (given k) (raised K k e)
+
+-- times or over a number, or without its sign: the Rust's `Kind::scaled`
+unfoldable pub scaled : Kinds → ℕ → ℕ → Answer ℕ
+scaled K code k = do
+  refuseIf (point K k) (UnsupportedOperation code k absent)
+  given k
+
+-- ---- the Rust's `Op`: what two kinds are combined by
+pub data Op : Type 0 where
+  summed : Sum → Op
+  multiplied : ProductOp → Op
+
+-- `Kind::combine`
+unfoldable pub combine : Kinds → Rows → Op → ℕ → ℕ → Answer ℕ
+combine K rows (summed s) l r = sum K s l r
+combine K rows (multiplied op) l r = product K rows l op r
+
+-- "2 Add, 3 Sub, 4 Mul, 5 Div, 6 Dot, 7 Wedge"
+abbrev pub opCode : Op → ℕ
+opCode (summed Add) = 2
+opCode (summed Sub) = 3
+opCode (multiplied op) = codeOf op
+
+unfoldable pub opBy : ℕ → Option Op
+opBy code =
+    getD
+    (none ∷ none ∷ some (summed Add) ∷ some (summed Sub) ∷ some (multiplied Mul) ∷ some (multiplied Div) ∷ some (multiplied Dot) ∷ some (multiplied Wedge) ∷ [])
+    code
+    none

@@ -1,0 +1,187 @@
+-- What an image declares, record by record, and the kinds and rows that its ids come to.
+use Prim.Native.Nat.{ℕ, zero, suc, _+_, _*_, _/_, _%_}
+use mathlib.Core.Bool.{Bool, true, false, cond, _&&_, _||_}
+use mathlib.Core.List.{List, [], _∷_}
+use mathlib.Core.Option.{Option, some, none}
+use lib.Dec.{eqb}
+use Rattle.laws.specs.Options.{isSome, found}
+use Rattle.laws.specs.Ranges.{first, tab, below}
+use Rattle.dimension.specs.Integer as I
+use Rattle.dimension.specs.Fraction as F
+use Rattle.dimension.specs.Dimension as D
+use Rattle.dimension.specs.declared.rational.Rational.{Rational}
+use Rattle.dimension.specs.declared.dimensions.Dimensions.{Dimensions}
+use Rattle.dimension.specs.declared.grade.ProductOp.{ProductOp}
+use Rattle.dimension.specs.declared.grade.ProductOp.the-variants.{Mul, Div, Dot, Wedge}
+use Rattle.rules.specs.Kinds.{Kinds, Rows}
+use Rattle.rules.specs.Bytes.{byte, le2}
+use Rattle.rules.specs.Layout.{kindCount, rowCount, kindBlocks}
+
+-- ---- ids
+abbrev pub Id : Type 0
+Id = List ℕ
+
+-- "All zero means undeclared"
+unfoldable pub blank : Id → Bool
+blank [] = true
+blank (x ∷ a) = eqb x 0 && blank a
+
+unfoldable pub same : Id → Id → Bool
+same [] [] = true
+same [] (y ∷ b) = false
+same (x ∷ a) [] = false
+same (x ∷ a) (y ∷ b) = eqb x y && same a b
+
+-- ---- records
+pub record Kind : Type 0 where
+  pub id : Id
+  pub difference : Id
+  pub rateOf : Id
+  pub dims : Option Dimensions
+  pub grade : ℕ
+
+pub record Row : Type 0 where
+  pub left : Id
+  pub right : Id
+  pub result : Id
+  pub op : ProductOp
+  pub commutative : Bool
+
+pub record Catalog : Type 0 where
+  pub kindCount : ℕ
+  pub kind : ℕ → Kind
+  pub dimensionless : Id
+  pub time : Id
+  pub rowCount : ℕ
+  pub row : ℕ → Row
+
+-- ---- read from the image
+unfoldable pub idAt : List ℕ → ℕ → Id
+idAt s p = tab (λ i. byte s (p + i)) 32
+
+-- "signed 16-bit numerator, 16-bit denominator"; "A fraction is reduced on reading (2/4 is 1/2); zero means the base is absent."
+unfoldable pub exponentAt : List ℕ → ℕ → Rational
+exponentAt s p = F.lowest (I.twos 32768 (le2 s p)) (le2 s (p + 2))
+
+-- "flag at 144 (1 dimensions given; 0 unresolved)"
+unfoldable pub dimsAt : List ℕ → ℕ → Option Dimensions
+dimsAt s p = cond (eqb (byte s (p + 144)) 1) (some (D.dimensions (tab (λ b. exponentAt s (p + 96 + 4 * b)) 12))) none
+
+-- "id at 0, difference id at 32, rate-of id at 64, .., grade 0 to 3 at 145"
+unfoldable pub kindFrom : List ℕ → ℕ → Kind
+kindFrom s p = record {
+  id = idAt s p;
+  difference = idAt s (p + 32);
+  rateOf = idAt s (p + 64);
+  dims = dimsAt s p;
+  grade = byte s (p + 145);
+}
+
+-- "operation at 96 (0 Mul, 1 Div, 2 Dot, 3 Wedge)"
+unfoldable pub opOf : ℕ → ProductOp
+opOf zero = Mul
+opOf (suc zero) = Div
+opOf (suc (suc zero)) = Dot
+opOf (suc (suc (suc n))) = Wedge
+
+unfoldable pub rowFrom : List ℕ → ℕ → Row
+rowFrom s p = record {
+  left = idAt s p;
+  right = idAt s (p + 32);
+  result = idAt s (p + 64);
+  op = opOf (byte s (p + 96));
+  commutative = eqb (byte s (p + 97)) 1;
+}
+
+-- the record of kind k and of row r: "three records each", "five each", from byte 4 of their blocks
+abbrev pub kindAt : ℕ → ℕ
+kindAt k = 512 * (1 + k / 3) + 4 + k % 3 * 148
+
+abbrev pub rowAt : List ℕ → ℕ → ℕ
+rowAt s r = 512 * (1 + kindBlocks s + r / 5) + 4 + r % 5 * 100
+
+abbrev pub noKind : Kind
+noKind = record { id = []; difference = []; rateOf = []; dims = none; grade = 0 }
+
+-- "dimensionless id at 12; time id at 44"
+unfoldable pub catalogIn : List ℕ → Catalog
+catalogIn s = record {
+  kindCount = kindCount s;
+  kind = below (kindCount s) noKind (λ k. kindFrom s (kindAt k));
+  dimensionless = idAt s 12;
+  time = idAt s 44;
+  rowCount = rowCount s;
+  row = λ r. rowFrom s (rowAt s r);
+}
+
+-- ---- what the ids name
+-- kind k is what was found
+abbrev pub meant : ℕ → Option ℕ → Bool
+meant k o = found o (λ j. eqb j k) false
+
+abbrev pub sameOp : ProductOp → ProductOp → Bool
+sameOp Mul Mul = true
+sameOp Mul Div = false
+sameOp Mul Dot = false
+sameOp Mul Wedge = false
+sameOp Div Mul = false
+sameOp Div Div = true
+sameOp Div Dot = false
+sameOp Div Wedge = false
+sameOp Dot Mul = false
+sameOp Dot Div = false
+sameOp Dot Dot = true
+sameOp Dot Wedge = false
+sameOp Wedge Mul = false
+sameOp Wedge Div = false
+sameOp Wedge Dot = false
+sameOp Wedge Wedge = true
+
+module _ (C : Catalog) where
+  -- the first kind of this id
+  unfoldable pub find : Id → Option ℕ
+  find id = first (λ k. same (C .kind k .id) id) (C .kindCount)
+
+  -- what a declared id names
+  unfoldable pub link : Id → Option ℕ
+  link id = cond (blank id) none (find id)
+
+  abbrev pub differenceOf : ℕ → Option ℕ
+  differenceOf k = link (C .kind k .difference)
+
+  abbrev pub targetOf : ℕ → Option ℕ
+  targetOf k = link (C .kind k .rateOf)
+
+  -- the first of n kinds that is declared a rate of t
+  unfoldable pub rateAmong : ℕ → ℕ → Option ℕ
+  rateAmong n t = first (λ k. meant t (targetOf k)) n
+
+  -- "a kind named as one is a difference"
+  unfoldable pub isDifference : ℕ → Bool
+  isDifference k = isSome (first (λ j. meant k (differenceOf j)) (C .kindCount))
+
+  unfoldable pub kindsOf : Kinds
+  kindsOf = record {
+    count = C .kindCount;
+    dims = λ k. C .kind k .dims;
+    grade = λ k. C .kind k .grade;
+    difference = differenceOf;
+    rateOf = targetOf;
+    rate = below (C .kindCount) none (rateAmong (C .kindCount));
+    dimensionless = link (C .dimensionless);
+    time = link (C .time);
+  }
+
+  -- the row is one for left, operation and right: "a commutative row is also one for the turned pair"
+  unfoldable pub names : ℕ → ℕ → Row → Bool
+  names l r x = meant l (find (x .left)) && meant r (find (x .right))
+
+  unfoldable pub covers : ℕ → ProductOp → ℕ → Row → Bool
+  covers l op r x = sameOp (x .op) op && (names l r x || (x .commutative && names r l x))
+
+  -- the first of n rows for left, operation and right
+  unfoldable pub rowAmong : ℕ → ℕ → ProductOp → ℕ → Option ℕ
+  rowAmong n l op r = first (λ i. covers l op r (C .row i)) n
+
+  unfoldable pub rowsOf : Rows
+  rowsOf l op r = found (rowAmong (C .rowCount) l op r) (λ i. find (C .row i .result)) none

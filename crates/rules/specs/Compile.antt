@@ -1,0 +1,127 @@
+-- Compilation, "then as `Registry::compile`: all ids (empty, then duplicate, kind by kind); differences; dimensionless; time; rates in kind order;
+-- rows in order". A rule for each record, over the kinds that the whole catalog comes to: each reads only what earlier rules have checked.
+use Prim.Native.Nat.{ℕ}
+use mathlib.Core.Bool.{Bool, true, false, cond, not, _&&_}
+use mathlib.Core.Option.{Option, some, none}
+use lib.Dec.{eqb}
+use Rattle.laws.specs.Out.{given, refused, _>>=_, _>>_, refuseIf, refuseFound, needed, each}
+use Rattle.laws.specs.Ranges.{first}
+use Rattle.dimension.specs.Dimension as D
+use Rattle.dimension.specs.declared.dimensions.Dimensions.{Dimensions}
+use Rattle.dimension.specs.declared.grade.ProductOp.the-variants.{Div}
+use Rattle.rules.specs.Kinds.{Kinds, Rows, Graded, point, duration}
+use Rattle.rules.specs.Refusal.{Answer, Placed, at, EmptyId, Duplicate, Unknown, AffineDimensionMismatch, NestedAffineSpace, InvalidDimensionlessKind, InvalidTimeKind, NoTimeKind, PointRate, RateMismatch, AlsoRateOf, CommutativeQuotient, Point, InvalidOperationRule, DerivedOperationRule, ConflictingOperationRule}
+use Rattle.rules.specs.Arithmetic.{Resolved, is, twins, nothing, resolved, derive, resolve}
+use Rattle.rules.specs.Catalog.{Id, blank, same, Catalog, sameOp, find, rateAmong, isDifference, kindsOf, rowAmong, rowsOf}
+
+abbrev pub Checked : Type 0
+Checked = Answer (Unit {0})
+
+-- a rule for what is declared
+abbrev pub ifDeclared : Id → Checked → Checked
+ifDeclared id rule = cond (blank id) (given tt) rule
+
+-- 13, "also where just one of the two is unresolved"
+abbrev pub sameDims : Option Dimensions → Option Dimensions → Bool
+sameDims none none = true
+sameDims none (some b) = false
+sameDims (some a) none = false
+sameDims (some a) (some b) = D.equal a b
+
+module _ (C : Catalog) where
+  abbrev K : Kinds
+  K = kindsOf C
+
+  -- 12
+  unfoldable pub called : ℕ → Id → Answer ℕ
+  called i id = needed (find C id) (Unknown i)
+
+  -- "all ids (empty, then duplicate, kind by kind)": 10, 11
+  unfoldable pub idRule : ℕ → Checked
+  idRule k = do
+    refuseIf (blank (C .kind k .id)) (EmptyId k)
+    refuseFound (first (λ j. same (C .kind j .id) (C .kind k .id)) k) (λ j. Duplicate k)
+
+  -- "Difference: 12, 13 (also where just one of the two is unresolved), 14."
+  unfoldable pub differenceRule : ℕ → Checked
+  differenceRule k = ifDeclared (C .kind k .difference) (do
+    d ← called k (C .kind k .difference)
+    refuseIf (not (sameDims (C .kind k .dims) (C .kind d .dims))) (AffineDimensionMismatch k d)
+    refuseIf (not (blank (C .kind d .difference))) (NestedAffineSpace k d))
+
+  -- "A kind with a difference is a point; a kind named as one is a difference; others are linear."
+  unfoldable pub linear : ℕ → Bool
+  linear k = not (point K k) && not (isDifference C k)
+
+  -- "Dimensionless: 12, then 15."
+  unfoldable pub dimensionlessRule : Checked
+  dimensionlessRule = ifDeclared (C .dimensionless) (do
+    o ← called 0 (C .dimensionless)
+    refuseIf (not (linear o && sameDims (C .kind o .dims) (some D.one))) (InvalidDimensionlessKind o))
+
+  -- "Time: 12, then 16."
+  unfoldable pub timeRule : Checked
+  timeRule = ifDeclared (C .time) (do
+    t ← called 0 (C .time)
+    refuseIf (not (point K t && eqb (C .kind t .grade) 0)) (InvalidTimeKind t))
+
+  -- "Rate: 12, 17, 18 (rate kind, then target), 19 (rate, target, duration), 20, 21."
+  unfoldable pub rateRule : ℕ → Checked
+  rateRule k = ifDeclared (C .kind k .rateOf) (do
+    t ← called k (C .kind k .rateOf)
+    d ← needed (duration K) (NoTimeKind k t)
+    refuseIf (point K k) (PointRate k t k)
+    refuseIf (point K t) (PointRate k t t)
+    a ← resolved K k
+    b ← resolved K t
+    c ← resolved K d
+    refuseIf (not (D.equal (D.product a c .value) b && eqb (K .grade k) (K .grade t))) (RateMismatch (record { dims = D.product a c .value; grade = K .grade k }))
+    refuseFound (rateAmong C k t) AlsoRateOf)
+
+  -- 25, 26: "it is accepted only where several kinds fit and it names one of them"
+  abbrev pub several : Resolved → Graded → Checked
+  several (is k) x = refused (DerivedOperationRule k)
+  several (twins ks) x = given tt
+  several nothing x = refused (InvalidOperationRule x)
+
+  -- 27: no earlier row is for left, operation and right
+  unfoldable pub fresh : ℕ → ℕ → ℕ → Checked
+  fresh i l r = refuseFound (rowAmong C i l (C .row i .op) r) (λ j. ConflictingOperationRule l r)
+
+  -- "Row: 22 before any id is looked up; 12 (left, right, result); 23 and 19 for the result; the derivation's refusals; 25; 26; 27, for the turned
+  -- pair too."
+  unfoldable pub rowRule : ℕ → Checked
+  rowRule i = do
+    refuseIf (C .row i .commutative && sameOp (C .row i .op) Div) (CommutativeQuotient i)
+    l ← called i (C .row i .left)
+    r ← called i (C .row i .right)
+    k ← called i (C .row i .result)
+    refuseIf (point K k) (Point l (C .row i .op) r k)
+    d ← resolved K k
+    x ← derive K l (C .row i .op) r
+    refuseIf (not (D.equal d (x .dims) && eqb (K .grade k) (x .grade))) (InvalidOperationRule x)
+    several (resolve K l (C .row i .op) r x) x
+    fresh i l r
+    cond (C .row i .commutative) (fresh i r l) (given tt)
+
+  -- "other faults the compiled record (kind or row) ..; header ids byte 12 or 44"
+  abbrev pub eachRecord : (ℕ → Checked) → ℕ → Placed (Unit {0})
+  eachRecord rule n = each (λ k. at k (rule k)) n
+
+  unfoldable pub compiles : Placed (Unit {0})
+  compiles = do
+    eachRecord idRule (C .kindCount)
+    eachRecord differenceRule (C .kindCount)
+    at 12 dimensionlessRule
+    at 44 timeRule
+    eachRecord rateRule (C .kindCount)
+    eachRecord rowRule (C .rowCount)
+
+pub record Compiled : Type 0 where
+  pub kinds : Kinds
+  pub rows : Rows
+
+unfoldable pub compile : Catalog → Placed Compiled
+compile C = do
+  compiles C
+  given (record { kinds = kindsOf C; rows = rowsOf C })

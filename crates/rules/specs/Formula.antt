@@ -1,0 +1,224 @@
+-- Formulas in postfix order, walked with a stack. What a token does to the terms it takes is a machine's: one walk serves to find what is malformed
+-- (50), to give each step its kind, and to calculate from the leaves.
+use Prim.Native.Nat.{ℕ, suc}
+use mathlib.Core.Bool.{Bool, true, cond}
+use mathlib.Core.List.{List, [], _∷_}
+use mathlib.Core.Option.{Option, some, none}
+use lib.Dec.{ltb}
+use lib.IntN.{pos, negℤ}
+use lib.ListN.{length}
+use Rattle.laws.specs.Options.{found}
+use Rattle.laws.specs.Out.{Out, given, refused, mapped}
+use Rattle.dimension.specs.Fraction as F
+use Rattle.dimension.specs.Dimension as D
+use Rattle.dimension.specs.Grade as G
+use Rattle.dimension.specs.declared.rational.Rational.{Rational}
+use Rattle.dimension.specs.declared.dimensions.Dimensions.{Dimensions}
+use Rattle.dimension.specs.declared.grade.ProductOp.{ProductOp}
+use Rattle.dimension.specs.declared.grade.ProductOp.the-variants.{Mul, Div, Dot, Wedge}
+use Rattle.dimension.specs.declared.grade.Grade.{Grade}
+use Rattle.dimension.specs.declared.grade.Grade.the-variants.{Single, Absent}
+use Rattle.rules.specs.Kinds.{Kinds, Rows}
+use Rattle.rules.specs.Refusal.{Refusal, Answer, NoKind, NumberTerm}
+use Rattle.rules.specs.Arithmetic.{Op, summed, multiplied, opCode, combine, power, scaled, agree, joined}
+
+-- ---- tokens
+pub data Unary : Type 0 where
+  exact : Rational → Unary
+  inexact : Unary
+  absolute : Unary
+
+pub data Binary : Type 0 where
+  combined : Op → Binary
+  compared : Binary
+
+-- unreadable: an unknown code, or a field that is not zero
+pub data Token : Type 0 where
+  number : Token
+  kind : ℕ → Token
+  unary : Unary → Token
+  binary : Binary → Token
+  unreadable : Token
+
+-- "Exponents: numerator ±2,147,483,647, denominator 1 to 2,147,483,647, reduced first"
+abbrev pub inLimits : Unary → Bool
+inLimits (exact e) = F.within e
+inLimits inexact = true
+inLimits absolute = true
+
+-- ---- the walk
+pub record Machine (E A : Type 0) : Type 0 where
+  pub number : A
+  pub kind : ℕ → Out E A
+  pub unary : Unary → A → Out E A
+  pub binary : Binary → A → A → Out E A
+
+-- one step: a new stack, a refusal, or a token that is malformed there
+pub data Step (E A : Type 0) : Type 0 where
+  on : List A → Step E A
+  stop : E → Step E A
+  bad : Step E A
+
+-- the term that remains; refused at a token; malformed at a token, or at the end
+pub data Ended (E A : Type 0) : Type 0 where
+  answered : A → Ended E A
+  stopped : ℕ → E → Ended E A
+  malformed : ℕ → Ended E A
+
+module _ {E A : Type 0} where
+  abbrev pub onto : List A → Out E A → Step E A
+  onto s (given a) = on (a ∷ s)
+  onto s (refused x) = stop x
+
+  -- "At most 32 terms are held together"
+  abbrev pub with-none : Out E A → List A → Step E A
+  with-none m s = cond (ltb (length s) 32) (onto s m) bad
+
+  abbrev pub with-one : (A → Out E A) → List A → Step E A
+  with-one f [] = bad
+  with-one f (a ∷ s) = onto s (f a)
+
+  abbrev pub with-two : (A → A → Out E A) → List A → Step E A
+  with-two f [] = bad
+  with-two f (b ∷ []) = bad
+  with-two f (b ∷ a ∷ s) = onto s (f a b)
+
+  -- "one remains"; "token count if the end leaves several"
+  abbrev pub last : ℕ → List A → Ended E A
+  last n [] = malformed n
+  last n (a ∷ []) = answered a
+  last n (b ∷ a ∷ s) = malformed n
+
+module _ {E A : Type 0} (M : Machine E A) where
+  abbrev pub step : Token → List A → Step E A
+  step number s = with-none (given (M .number)) s
+  step (kind k) s = with-none (M .kind k) s
+  step (unary u) s = cond (inLimits u) (with-one (M .unary u) s) bad
+  step (binary b) s = with-two (M .binary b) s
+  step unreadable s = bad
+
+  -- "token by token, stopping at the first refusal"
+  unfoldable pub walk : List Token → ℕ → List A → Ended E A
+  walk [] p s = last p s
+  walk (t ∷ ts) p s = elim (step t s) [ on s' ↦ walk ts (suc p) s' | stop x ↦ stopped p x | bad ↦ malformed p ]
+
+-- ---- 50: where each step gives something, the walk ends malformed or answers
+unfoldable pub shape : Machine ⊥ (Unit {0})
+shape = record { number = tt; kind = λ k. given tt; unary = λ u a. given tt; binary = λ b x y. given tt }
+
+-- "first bad token; token count if the end leaves several"
+unfoldable pub malformedAt : List Token → Option ℕ
+malformedAt toks = elim (walk shape toks 0 []) [ answered u ↦ none | stopped p x ↦ absurd x | malformed p ↦ some p ]
+
+-- ---- the Rust's `Term`: "Each step answers as `Term::combine`, `power`, `absolute` or `same` does; compare leaves the left kind."
+pub data Term : Type 0 where
+  Number : Term
+  Kind : ℕ → Term
+
+abbrev minusOne : Rational
+minusOne = F.ratio (negℤ (pos 1)) 1
+
+-- kind by number
+unfoldable pub byNumber : Kinds → Binary → ℕ → Answer ℕ
+byNumber K (combined (multiplied Mul)) k = scaled K 4 k
+byNumber K (combined (multiplied Div)) k = scaled K 5 k
+byNumber K (combined (multiplied Dot)) k = refused (NumberTerm 6 k)
+byNumber K (combined (multiplied Wedge)) k = refused (NumberTerm 7 k)
+byNumber K (combined (summed s)) k = refused (NumberTerm (opCode (summed s)) k)
+byNumber K compared k = refused (NumberTerm 11 k)
+
+-- number by kind: the same but for a quotient, which is the kind's power −1
+unfoldable pub numberBy : Kinds → Binary → ℕ → Answer ℕ
+numberBy K (combined (multiplied Mul)) k = scaled K 4 k
+numberBy K (combined (multiplied Div)) k = power K 5 k (some minusOne)
+numberBy K (combined (multiplied Dot)) k = refused (NumberTerm 6 k)
+numberBy K (combined (multiplied Wedge)) k = refused (NumberTerm 7 k)
+numberBy K (combined (summed s)) k = refused (NumberTerm (opCode (summed s)) k)
+numberBy K compared k = refused (NumberTerm 11 k)
+
+unfoldable pub twoKinds : Kinds → Rows → Binary → ℕ → ℕ → Answer ℕ
+twoKinds K rows (combined op) l r = combine K rows op l r
+twoKinds K rows compared l r = agree l r l
+
+unfoldable pub oneKind : Kinds → Unary → ℕ → Answer ℕ
+oneKind K (exact e) k = power K 8 k (some e)
+oneKind K inexact k = power K 9 k none
+oneKind K absolute k = scaled K 10 k
+
+unfoldable pub binaryTerm : Kinds → Rows → Binary → Term → Term → Answer Term
+binaryTerm K rows b Number Number = given Number
+binaryTerm K rows b (Kind l) (Kind r) = mapped Kind (twoKinds K rows b l r)
+binaryTerm K rows b (Kind k) Number = mapped Kind (byNumber K b k)
+binaryTerm K rows b Number (Kind k) = mapped Kind (numberBy K b k)
+
+unfoldable pub unaryTerm : Kinds → Unary → Term → Answer Term
+unaryTerm K u Number = given Number
+unaryTerm K u (Kind k) = mapped Kind (oneKind K u k)
+
+-- 41
+unfoldable pub kindTerm : Kinds → ℕ → Answer Term
+kindTerm K k = cond (ltb k (K .count)) (given (Kind k)) (refused (NoKind k))
+
+unfoldable pub terms : Kinds → Rows → Machine Refusal Term
+terms K rows = record { number = Number; kind = kindTerm K; unary = unaryTerm K; binary = binaryTerm K rows }
+
+-- "50, then token by token": 50 is looked for over the whole list first
+unfoldable pub formula : Kinds → Rows → List Token → Ended Refusal Term
+formula K rows toks = found (malformedAt toks) malformed (walk (terms K rows) toks 0 [])
+
+-- ---- "Calculation from leaves, with no lookup of kinds"
+pub data Meaning : Type 0 where
+  plain : Meaning
+  of : Option Dimensions → ℕ → Meaning
+
+-- "a number is a number; a kind has its dimensions (or none) and grade"
+abbrev pub meaning : Kinds → Term → Meaning
+meaning K Number = plain
+meaning K (Kind k) = of (K .dims k) (K .grade k)
+
+-- "products add or subtract exponents"
+abbrev pub both : ProductOp → Option Dimensions → Option Dimensions → Option Dimensions
+both op (some a) (some b) = some (joined op a b)
+both op (some a) none = none
+both op none o = none
+
+-- "power multiplies exponents, its grade scalar unless the exponent is one"
+abbrev pub powered : Rational → Option Dimensions → ℕ → Meaning
+powered e a g = cond (F.isOne e) (of a g) (of (found a (λ d. some (D.power d e .value)) none) 0)
+
+abbrev single : Grade → (ℕ → Meaning) → Out (Unit {0}) Meaning
+single (Single g) f = given (f g)
+single Absent f = refused tt
+
+-- "and use the grade rule"; "scaling (by a number) .. keep; number / kind is power −1; numbers alone give a number"
+unfoldable pub productOf : ProductOp → Meaning → Meaning → Out (Unit {0}) Meaning
+productOf op plain plain = given plain
+productOf op (of a g) (of b h) = single (G.product op g h) (of (both op a b))
+productOf Mul (of a g) plain = given (of a g)
+productOf Div (of a g) plain = given (of a g)
+productOf Dot (of a g) plain = refused tt
+productOf Wedge (of a g) plain = refused tt
+productOf Mul plain (of b h) = given (of b h)
+productOf Div plain (of b h) = given (powered minusOne b h)
+productOf Dot plain (of b h) = refused tt
+productOf Wedge plain (of b h) = refused tt
+
+-- "sum and compare take the left's"
+unfoldable pub binaryOf : Binary → Meaning → Meaning → Out (Unit {0}) Meaning
+binaryOf (combined (summed s)) m n = given m
+binaryOf (combined (multiplied op)) m n = productOf op m n
+binaryOf compared m n = given m
+
+-- "absolute keep"
+unfoldable pub unaryOf : Unary → Meaning → Out (Unit {0}) Meaning
+unaryOf (exact e) plain = given plain
+unaryOf (exact e) (of a g) = given (powered e a g)
+unaryOf inexact plain = given plain
+unaryOf inexact (of a g) = refused tt
+unaryOf absolute m = given m
+
+unfoldable pub meanings : Kinds → Machine (Unit {0}) Meaning
+meanings K = record { number = plain; kind = λ k. given (meaning K (Kind k)); unary = unaryOf; binary = binaryOf }
+
+unfoldable pub calculation : Kinds → List Token → Ended (Unit {0}) Meaning
+calculation K toks = walk (meanings K) toks 0 []

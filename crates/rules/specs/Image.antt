@@ -1,0 +1,56 @@
+-- An image compiled. "Order: 1, 5, 2 (lowest block), 3, 4 (lowest byte), then as `Registry::compile`".
+use Prim.Native.Nat.{ℕ, _+_, _*_, _/_, _%_}
+use mathlib.Core.Bool.{Bool, not, _||_}
+use mathlib.Core.List.{List}
+use lib.Dec.{eqb, ltb}
+use lib.ListN.{length}
+use Rattle.laws.specs.Options.{found}
+use Rattle.laws.specs.Out.{given, refused, _>>_, refuseIf}
+use Rattle.laws.specs.Ranges.{first}
+use Rattle.rules.specs.Bytes.{le2, le4, blockSum}
+use Rattle.rules.specs.Layout.{byteWrong}
+use Rattle.rules.specs.Refusal.{Refusal, Placed, at, ImageLength, Short, WrongBlock, Schema, WrongByte}
+use Rattle.rules.specs.Catalog.{catalogIn}
+use Rattle.rules.specs.Compile.{Compiled, compile}
+
+-- 1: "1 to 121 blocks of 512 bytes"
+unfoldable pub lengthCheck : List ℕ → Placed (Unit {0})
+lengthCheck s = at 0 (refuseIf (eqb (length s) 0 || not (eqb (length s % 512) 0) || ltb (121 * 512) (length s)) (ImageLength (length s)))
+
+-- 5: "table under 9,296 32-bit words"
+unfoldable pub roomCheck : ℕ → Placed (Unit {0})
+roomCheck room = at 0 (refuseIf (ltb room 9296) (Short room))
+
+-- refused at the first place below n that is wrong, which is returned too
+abbrev pub refuseFirst : (ℕ → Bool) → ℕ → (ℕ → Refusal) → Placed (Unit {0})
+refuseFirst wrong n x = found (first wrong n) (λ i. refused (record { place = i; refusal = x i })) (given tt)
+
+-- 2: "Bytes 0-1: block's place from 0"; "Bytes 508-511: the sum"
+unfoldable pub sumWrong : List ℕ → ℕ → Bool
+sumWrong s b = not (eqb (le2 s (b * 512)) b) || not (eqb (le4 s (b * 512 + 508)) (blockSum s b))
+
+unfoldable pub blocksCheck : List ℕ → Placed (Unit {0})
+blocksCheck s = refuseFirst (sumWrong s) (length s / 512) WrongBlock
+
+-- 3: "schema, 4 bytes at 4"; "schema not 4"
+unfoldable pub schemaCheck : List ℕ → Placed (Unit {0})
+schemaCheck s = at 0 (refuseIf (not (eqb (le4 s 4) 4)) (Schema (le4 s 4)))
+
+-- 4
+unfoldable pub layoutCheck : List ℕ → Placed (Unit {0})
+layoutCheck s = refuseFirst (byteWrong s) (length s) WrongByte
+
+-- 2, 3, 4
+unfoldable pub readable : List ℕ → Placed (Unit {0})
+readable s = do
+  blocksCheck s
+  schemaCheck s
+  layoutCheck s
+
+-- `room` is the length of the table lent
+unfoldable pub compileImage : List ℕ → ℕ → Placed Compiled
+compileImage s room = do
+  lengthCheck s
+  roomCheck room
+  readable s
+  compile (catalogIn s)

@@ -1,0 +1,48 @@
+-- A compiled catalog: what its kinds are, and which kind a row names. Both are functions of indexes; how they are laid out in words is told in Table.
+use Prim.Native.Nat.{ℕ}
+use mathlib.Core.Bool.{Bool, false, not, _&&_}
+use mathlib.Core.List.{List}
+use mathlib.Core.Option.{Option, none}
+use lib.Dec.{eqb}
+use Rattle.laws.specs.Options.{isSome, found}
+use Rattle.laws.specs.Ranges.{picked}
+use Rattle.dimension.specs.Dimension as D
+use Rattle.dimension.specs.declared.dimensions.Dimensions.{Dimensions}
+use Rattle.dimension.specs.declared.grade.ProductOp.{ProductOp}
+
+pub record Kinds : Type 0 where
+  pub count : ℕ
+  -- none: unresolved
+  pub dims : ℕ → Option Dimensions
+  pub grade : ℕ → ℕ
+  pub difference : ℕ → Option ℕ
+  -- what the kind is the rate of, and which kind is its rate
+  pub rateOf : ℕ → Option ℕ
+  pub rate : ℕ → Option ℕ
+  pub dimensionless : Option ℕ
+  pub time : Option ℕ
+
+-- the kind that the rows in force name for left, operation and right
+abbrev pub Rows : Type 0
+Rows = ℕ → ProductOp → ℕ → Option ℕ
+
+-- "A kind with a difference is a point."
+abbrev pub point : Kinds → ℕ → Bool
+point K k = isSome (K .difference k)
+
+-- "Duration is the time kind's difference."
+abbrev pub duration : Kinds → Option ℕ
+duration K = found (K .time) (K .difference) none
+
+-- dimensions at a grade: what a product has, before any kind is chosen
+pub record Graded : Type 0 where
+  pub dims : Dimensions
+  pub grade : ℕ
+
+-- "one fitting non-point kind": no point, of this grade, with exactly these dimensions
+unfoldable pub fits : Kinds → Graded → ℕ → Bool
+fits K x k = not (point K k) && (eqb (K .grade k) (x .grade) && found (K .dims k) (λ d. D.equal d (x .dims)) false)
+
+-- the kinds that fit, ascending
+abbrev pub candidates : Kinds → Graded → List ℕ
+candidates K x = picked (fits K x) (K .count)

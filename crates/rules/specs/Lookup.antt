@@ -1,0 +1,70 @@
+-- A lone lookup over lent words. "Order for a lone lookup: 5, 40, 50 (operation without a code here, or exponent outside its limits), 41 left, 41
+-- right." Its place is 0.
+use Prim.Native.Nat.{ℕ}
+use mathlib.Core.Bool.{not, _&&_}
+use mathlib.Core.List.{List}
+use mathlib.Core.Option.{Option, some, none}
+use lib.Dec.{ltb}
+use lib.IntN.{ℤ}
+use lib.ListN.{length}
+use Rattle.laws.specs.Out.{given, refused, _>>=_, _>>_, refuseIf, needed}
+use Rattle.laws.specs.Ranges.{overlay}
+use Rattle.dimension.specs.Fraction as F
+use Rattle.dimension.specs.declared.rational.Rational.{Rational}
+use Rattle.dimension.specs.declared.rational.Ratio.{Ratio}
+use Rattle.dimension.specs.declared.rational.Ratio.the-variants.{Is, Over}
+use Rattle.rules.specs.Kinds.{Kinds}
+use Rattle.rules.specs.Refusal.{Answer, Short, NoTable, NoKind, Malformed, told}
+use Rattle.rules.specs.Arithmetic as rule
+use Rattle.rules.specs.Table.{kindsOf, rowsOf, isTable, areRows}
+
+-- "table under 9,296 32-bit words, or twin list under 240 16-bit": 5, "length lent, the table's first"
+unfoldable pub roomy : List ℕ → List ℕ → Answer (Unit {0})
+roomy table twins = do
+  refuseIf (ltb (length table) 9296) (Short (length table))
+  refuseIf (ltb (length twins) 240) (Short (length twins))
+
+-- 41: "kind index past the end"
+unfoldable pub indexed : Kinds → ℕ → Answer (Unit {0})
+indexed K k = refuseIf (not (ltb k (K .count))) (NoKind k)
+
+unfoldable pub combine : List ℕ → List ℕ → List ℕ → ℕ → ℕ → ℕ → Answer ℕ
+combine table rows twins code l r = do
+  roomy table twins
+  refuseIf (not (isTable table && areRows (kindsOf table .count) rows)) NoTable
+  op ← needed (rule.opBy code) (Malformed 0)
+  indexed (kindsOf table) l
+  indexed (kindsOf table) r
+  rule.combine (kindsOf table) (rowsOf rows) op l r
+
+-- an exponent as it is handed over: inexact, or a numerator and a denominator, "reduced first"
+pub data Exponent : Type 0 where
+  exact : ℤ → ℕ → Exponent
+  inexact : Exponent
+
+abbrev limited : Ratio → Answer (Option Rational)
+limited (Is e) = given (some e)
+limited Over = refused (Malformed 0)
+
+abbrev pub exponent : Exponent → Answer (Option Rational)
+exponent (exact n d) = limited (F.answer n d)
+exponent inexact = given none
+
+-- the code of an exact power's token is 8, of an inexact one's 9
+abbrev pub powerCode : Exponent → ℕ
+powerCode (exact n d) = 8
+powerCode inexact = 9
+
+unfoldable pub power : List ℕ → List ℕ → ℕ → Exponent → Answer ℕ
+power table twins k x = do
+  roomy table twins
+  refuseIf (not (isTable table)) NoTable
+  e ← exponent x
+  indexed (kindsOf table) k
+  rule.power (kindsOf table) (powerCode x) k e
+
+-- what the twin list then holds: "all but the first count twin entries" stay
+module _ {A : Type 0} where
+  unfoldable pub twinsAfter : Answer A → List ℕ → List ℕ
+  twinsAfter (given a) old = old
+  twinsAfter (refused x) old = overlay (told x .twins) old

@@ -1,0 +1,132 @@
+-- Why something is refused: a case for each cause of 01's table, with all that is returned; its number, values and twin list.
+use Prim.Native.Nat.{ℕ}
+use mathlib.Core.List.{List, [], _∷_}
+use mathlib.Core.Option.{Option, some, none}
+use lib.ListN.{length}
+use Rattle.laws.specs.Out.{Out, given, refused}
+use Rattle.dimension.specs.declared.dimensions.Dimensions.{Dimensions}
+use Rattle.dimension.specs.declared.grade.ProductOp.{ProductOp}
+use Rattle.dimension.specs.declared.grade.ProductOp.the-variants.{Mul, Div, Dot, Wedge}
+use Rattle.rules.specs.Kinds.{Graded}
+
+pub data Refusal : Type 0 where
+  -- lent buffers and bytes
+  ImageLength : ℕ → Refusal
+  WrongBlock : ℕ → Refusal
+  Schema : ℕ → Refusal
+  WrongByte : ℕ → Refusal
+  Short : ℕ → Refusal
+  -- compilation
+  EmptyId : ℕ → Refusal
+  Duplicate : ℕ → Refusal
+  Unknown : ℕ → Refusal
+  AffineDimensionMismatch : ℕ → ℕ → Refusal
+  NestedAffineSpace : ℕ → ℕ → Refusal
+  InvalidDimensionlessKind : ℕ → Refusal
+  InvalidTimeKind : ℕ → Refusal
+  NoTimeKind : ℕ → ℕ → Refusal
+  PointRate : ℕ → ℕ → ℕ → Refusal
+  UnresolvedDimensions : ℕ → Refusal
+  RateMismatch : Graded → Refusal
+  AlsoRateOf : ℕ → Refusal
+  CommutativeQuotient : ℕ → Refusal
+  Point : ℕ → ProductOp → ℕ → ℕ → Refusal
+  Ungraded : ℕ → ℕ → ℕ → ℕ → Refusal
+  InvalidOperationRule : Graded → Refusal
+  DerivedOperationRule : ℕ → Refusal
+  ConflictingOperationRule : ℕ → ℕ → Refusal
+  -- lookups and formulas
+  PowerOverLimits : ℕ → Refusal
+  NoTable : Refusal
+  NoKind : ℕ → Refusal
+  KindMismatch : ℕ → ℕ → Refusal
+  UnsupportedOperation : ℕ → ℕ → ℕ → Refusal
+  -- of this left, operation and right, the kinds that fit
+  UnresolvedTwin : ℕ → ProductOp → ℕ → List ℕ → Refusal
+  NoProductKind : Graded → Refusal
+  UngradedPower : ℕ → Refusal
+  NoPowerKind : Dimensions → Refusal
+  UnresolvedPowerTwin : List ℕ → Refusal
+  NumberTerm : ℕ → ℕ → Refusal
+  Malformed : ℕ → Refusal
+
+-- "An operation is returned as the code of its token, for rows and lone lookups too (Mul is 4)"
+abbrev pub codeOf : ProductOp → ℕ
+codeOf Mul = 4
+codeOf Div = 5
+codeOf Dot = 6
+codeOf Wedge = 7
+
+-- "a kind that isn't there as 65,535"
+abbrev pub absent : ℕ
+absent = 65535
+
+-- 01's table. Dimensions, where they are returned, come before the values; the twins are what the twin list's first entries become
+pub record Told : Type 0 where
+  pub number : ℕ
+  pub dims : Option Dimensions
+  pub values : List ℕ
+  pub twins : List ℕ
+
+abbrev says : ℕ → List ℕ → Told
+says n vs = record { number = n; dims = none; values = vs; twins = [] }
+
+abbrev says-dims : ℕ → Dimensions → ℕ → Told
+says-dims n d g = record { number = n; dims = some d; values = g ∷ []; twins = [] }
+
+abbrev says-twins : ℕ → List ℕ → Told
+says-twins n ks = record { number = n; dims = none; values = length ks ∷ []; twins = ks }
+
+unfoldable pub told : Refusal → Told
+told (ImageLength n) = says 1 (n ∷ [])
+told (WrongBlock b) = says 2 (b ∷ [])
+told (Schema v) = says 3 (v ∷ [])
+told (WrongByte i) = says 4 (i ∷ [])
+told (Short n) = says 5 (n ∷ [])
+told (EmptyId k) = says 10 (k ∷ [])
+told (Duplicate k) = says 11 (k ∷ [])
+told (Unknown i) = says 12 (i ∷ [])
+told (AffineDimensionMismatch k d) = says 13 (k ∷ d ∷ [])
+told (NestedAffineSpace k d) = says 14 (k ∷ d ∷ [])
+told (InvalidDimensionlessKind k) = says 15 (k ∷ [])
+told (InvalidTimeKind k) = says 16 (k ∷ [])
+told (NoTimeKind k t) = says 17 (k ∷ t ∷ absent ∷ [])
+told (PointRate k t p) = says 18 (k ∷ t ∷ p ∷ [])
+told (UnresolvedDimensions k) = says 19 (k ∷ [])
+told (RateMismatch x) = says-dims 20 (x .dims) (x .grade)
+told (AlsoRateOf k) = says 21 (k ∷ [])
+told (CommutativeQuotient i) = says 22 (i ∷ [])
+told (Point l op r k) = says 23 (l ∷ codeOf op ∷ r ∷ k ∷ [])
+told (Ungraded l r a b) = says 24 (l ∷ r ∷ a ∷ b ∷ [])
+told (InvalidOperationRule x) = says-dims 25 (x .dims) (x .grade)
+told (DerivedOperationRule k) = says 26 (k ∷ [])
+told (ConflictingOperationRule l r) = says 27 (l ∷ r ∷ [])
+told (PowerOverLimits k) = says 28 (k ∷ [])
+told NoTable = says 40 (0 ∷ [])
+told (NoKind k) = says 41 (k ∷ [])
+told (KindMismatch e a) = says 42 (e ∷ a ∷ [])
+told (UnsupportedOperation c l r) = says 43 (c ∷ l ∷ r ∷ [])
+told (UnresolvedTwin l op r ks) = says-twins 44 ks
+told (NoProductKind x) = says-dims 45 (x .dims) (x .grade)
+told (UngradedPower g) = says 46 (g ∷ [])
+told (NoPowerKind d) = says-dims 47 d 0
+told (UnresolvedPowerTwin ks) = says-twins 48 ks
+told (NumberTerm c k) = says 49 (c ∷ k ∷ [])
+told (Malformed p) = says 50 (p ∷ [])
+
+-- what gives an A or is refused
+abbrev pub Answer : Type 0 → Type 0
+Answer A = Out Refusal A
+
+-- "Every refusal carries its place, from 0"
+pub record Fault : Type 0 where
+  pub place : ℕ
+  pub refusal : Refusal
+
+abbrev pub Placed : Type 0 → Type 0
+Placed A = Out Fault A
+
+module _ {A : Type 0} where
+  abbrev pub at : ℕ → Answer A → Placed A
+  at p (given a) = given a
+  at p (refused x) = refused (record { place = p; refusal = x })
