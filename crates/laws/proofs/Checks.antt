@@ -10,17 +10,18 @@ use native.Mathlib.Numerals.{add-one}
 use native.Mathlib.Omega.{arith}
 use Rattle.laws.specs.Out.{Out, given, refused, _>>=_, _>>_, refuseIf, refuseFound, needed, each}
 
+-- ---- one rule after another: the first went on, or stopped
 module _ {E A B : Type 0} where
-  pub bind-on : {m : Out E A} (f : A → Out E B) {a : A} {r : Out E B} → m ≡ given a → r ≡ f a → r ≡ (m >>= f)
-  bind-on f p e = rw p e
+  pub bind-on : {m : Out E A} (f : A → Out E B) {a : A} → m ≡ given a → (m >>= f) ≡ f a
+  bind-on f p = rw p
 
-  pub bind-stop : {m : Out E A} (f : A → Out E B) {x : E} → m ≡ refused x → refused x ≡ (m >>= f)
+  pub bind-stop : {m : Out E A} (f : A → Out E B) {x : E} → m ≡ refused x → (m >>= f) ≡ refused x
   bind-stop f p = rw p
 
-  pub then-on : {m : Out E A} {n r : Out E B} {a : A} → m ≡ given a → r ≡ n → r ≡ (m >> n)
-  then-on p e = rw p e
+  pub then-on : {m : Out E A} (n : Out E B) {a : A} → m ≡ given a → (m >> n) ≡ n
+  then-on n p = rw p
 
-  pub then-stop : {m : Out E A} (n : Out E B) {x : E} → m ≡ refused x → refused x ≡ (m >> n)
+  pub then-stop : {m : Out E A} (n : Out E B) {x : E} → m ≡ refused x → (m >> n) ≡ refused x
   then-stop n p = rw p
 
 -- ---- a loop over rules: none has refused below i
