@@ -1,11 +1,13 @@
-"""The stored answers as bytes: writing and reading oracle/answers/*.bin.
+"""The stored answers as bytes: writing and reading crates/vectors/data/*.bin.
 
-oracle/answers/README.md has the layout in words.
+docs/VECTORS.md has the layout in words.
 """
+import os
 import struct
 
-from oracle.ask import Answer, CompiledKind, CompiledRow
+from oracle.ask import ROOT, Answer, CompiledKind, CompiledRow
 
+ANSWERS = os.path.join(ROOT, "crates", "vectors", "data")
 MAGIC = b"KCA1"
 EXPONENTS, COMPILE, LOOKUPS, FORMULAS = 1, 2, 3, 4
 NUMBER, KIND, REFUSED, COMPILED = 0, 1, 2, 3

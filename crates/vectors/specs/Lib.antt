@@ -1,0 +1,3 @@
+-- Numbers as the stored files hold them, and what their records say.
+pub mod Little
+pub mod ExponentRecords
