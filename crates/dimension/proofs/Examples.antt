@@ -1,11 +1,12 @@
 -- Worked examples, computed: zero, the ends of the declared range and of the limits, and one step past each. Assumes nothing.
 use mathlib.Core.Path.{_≡_, refl}
+use mathlib.Core.Bool.{true, false}
 use mathlib.Core.List.{List, [], _∷_, map}
 use Prim.Native.Nat.{ℕ}
 use lib.IntN.{pos, negℤ}
 use lib.ListN.{set}
 use Rattle.dimension.specs.Gcd.{euclid, gcd}
-use Rattle.dimension.specs.Fraction.{ratio, lowest, within, limited, answer, sum, difference, product, opposite}
+use Rattle.dimension.specs.Fraction.{ratio, lowest, within, limited, answer, sum, difference, product, opposite, declared}
 use Rattle.dimension.specs.Dimension as D
 use Rattle.dimension.specs.declared.rational.Rational.{Rational}
 use Rattle.dimension.specs.declared.rational.Ratio.{Ratio}
@@ -82,3 +83,12 @@ powers =
 powers-shown : map (λ (c : Power). c .asked) powers ≡ map (λ (c : Power). c .answered) powers
 unfolding D.power D.outcome answer product limited within lowest gcd euclid
 powers-shown = refl
+
+-- ---- what can be declared: −32,768 to 32,767 over 1 to 32,767, in lowest terms
+declared-shown : map declared (up 32767 1 ∷ down 32768 1 ∷ up 0 1 ∷ up 1 32767 ∷ []) ≡ true ∷ true ∷ true ∷ true ∷ []
+unfolding declared gcd euclid
+declared-shown = refl
+
+undeclared-shown : map declared (up 32768 1 ∷ down 32769 1 ∷ up 1 32768 ∷ up 1 0 ∷ up 2 4 ∷ up 0 2 ∷ []) ≡ false ∷ false ∷ false ∷ false ∷ false ∷ false ∷ []
+unfolding declared gcd euclid
+undeclared-shown = refl

@@ -3,12 +3,12 @@
 -- What a catalog declares stays within the limits in one sum or difference. Assumes nothing.
 use mathlib.Core.Path.{_≡_, refl, sym, _∙_, ap, subst}
 use mathlib.Core.Bool.{Bool, true, false, cond, _&&_}
-use Prim.Native.Nat.{ℕ, zero, suc, _+_, _*_, _/_, _<_, _≤_}
+use Prim.Native.Nat.{ℕ, zero, suc, _+_, _*_, _/_, _<_, _≤_, zero-le}
 use native.Mathlib.Nat.{mul-pos, mul-le-mul, div-le-self, zero-mul, mul-zero, not-suc-le-zero, le-trans}
 use native.Mathlib.Nat as N
 use native.Mathlib.Omega.{arith}
 use borrow.Author.Tests.{leb-true, ltb-true, le-leb, lt-ltb, eqb-true, eq-eqb}
-use lib.Dec.{leb, ltb}
+use lib.Dec.{leb, ltb, eqb}
 use lib.IntN.{ℤ, pos, negsuc, negℤ, natAbs, _+ℤ_, _-ℤ_, _*ℤ_, +ℤ-comm, *ℤ-comm, negℤ-negℤ}
 use Rattle.laws.proofs.Cases.{and-left, and-right}
 use Rattle.dimension.specs.Gcd.{gcd, euclid}
@@ -343,24 +343,36 @@ declared-told a e =
     let p = leb (natAbs (a .num)) 32768 in
     let q = ltb 0 (a .den) in
     let r = leb (a .den) 32767 in
-    let x = and-left (p && q && r) _ e in
+    let s = eqb (gcd (natAbs (a .num)) (a .den)) 1 in
+    let w = and-left (p && q && r && s) _ e in
+    let x = and-left (p && q && r) _ w in
     let y = and-left (p && q) _ x in
     record {
-      reduced = record { coprime = eqb-true _ 1 (and-right (p && q && r) _ e); positive = ltb-true 0 (a .den) (and-right p _ y) };
+      reduced = record { coprime = eqb-true _ 1 (and-right (p && q && r) _ w); positive = ltb-true 0 (a .den) (and-right p _ y) };
       num = leb-true (natAbs (a .num)) 32768 (and-left p _ y);
       den = leb-true (a .den) 32767 (and-right (p && q) _ x);
+      top = leb-true (up (a .num)) 32767 (and-right (p && q && r && s) _ e);
     }
 
 pub told-declared : (a : Rational) → Declared a → declared a ≡ true
 unfolding declared
 told-declared a h =
-    simp (le-leb (natAbs (a .num)) 32768 (h .num), lt-ltb 0 (a .den) (h .reduced .positive), le-leb (a .den) 32767 (h .den), eq-eqb _ 1 (h .reduced .coprime))
+    simp (le-leb (natAbs (a .num)) 32768 (h .num), lt-ltb 0 (a .den) (h .reduced .positive), le-leb (a .den) 32767 (h .den), eq-eqb _ 1 (h .reduced .coprime), le-leb (up (a .num)) 32767 (h .top))
+
+up-opposite : (n : ℕ) → up (negℤ (pos n)) ≤ 0
+up-opposite zero = zero-le
+up-opposite (suc n) = zero-le
 
 -- lowest terms are no larger
 size-lowest : (z : ℤ) (d : ℕ) → natAbs (lowest z d .num) ≤ natAbs z
 unfolding lowest
 size-lowest (pos n) d = div-le-self n (gcd n d)
 size-lowest (negsuc n) d = rw (size-neg (pos (suc n / gcd (suc n) d))) (div-le-self (suc n) (gcd (suc n) d))
+
+up-lowest : (z : ℤ) (d : ℕ) → up (lowest z d .num) ≤ up z
+unfolding lowest
+up-lowest (pos n) d = div-le-self n (gcd n d)
+up-lowest (negsuc n) d = up-opposite (suc n / gcd (suc n) d)
 
 den-lowest : (z : ℤ) (d : ℕ) → lowest z d .den ≤ d
 unfolding lowest
@@ -373,11 +385,11 @@ small-answer z d h p q =
     rw (within-of (lowest z d) (record { reduced = lowest-reduced z d h; num = le-trans (size-lowest z d) p; den = le-trans (den-lowest z d) q }))
 
 -- a fraction of 16-bit parts, reduced, can be declared
-pub small-declared : (n : ℤ) (d : ℕ) → 0 < d → natAbs n ≤ 32768 → d ≤ 32767 → (r : Rational) × (answer n d ≡ Is r) × Declared r
-small-declared n d h p q = (
+pub small-declared : (n : ℤ) (d : ℕ) → 0 < d → natAbs n ≤ 32768 → up n ≤ 32767 → d ≤ 32767 → (r : Rational) × (answer n d ≡ Is r) × Declared r
+small-declared n d h p t q = (
   lowest n d,
   small-answer n d h (omega arith) (omega arith),
-  record { reduced = lowest-reduced n d h; num = le-trans (size-lowest n d) p; den = le-trans (den-lowest n d) q },
+  record { reduced = lowest-reduced n d h; num = le-trans (size-lowest n d) p; den = le-trans (den-lowest n d) q; top = le-trans (up-lowest n d) t },
 )
 
 -- 01: "Declared exponents keep one product inside 32 bits: 2 × 32,768 × 32,767 = 2,147,418,112"

@@ -6,7 +6,7 @@ use lib.Dec.{leb, ltb, eqb}
 use lib.IntN.{ℤ, pos, negℤ, natAbs, _+ℤ_, _-ℤ_, _*ℤ_}
 use lib.Signed.{quotZ}
 use Rattle.dimension.specs.Gcd.{gcd}
-use Rattle.dimension.specs.Integer.{eqZ}
+use Rattle.dimension.specs.Integer.{eqZ, up}
 use Rattle.dimension.specs.declared.rational.Rational.{Rational}
 use Rattle.dimension.specs.declared.rational.Ratio.{Ratio}
 use Rattle.dimension.specs.declared.rational.Ratio.the-variants.{Is, Over}
@@ -64,9 +64,11 @@ isOne a = ltb 0 (a .den) && eqZ (a .num) (pos (a .den))
 unfoldable pub isZero : Rational → Bool
 isZero a = ltb 0 (a .den) && eqZ (a .num) (pos 0)
 
--- 01, the table: "declared exponents lie in their ranges, fractions reduced": a 16-bit numerator, a denominator 1 to 32,767, lowest terms
+-- 01, the table: "declared exponents lie in their ranges, fractions reduced": a numerator −32,768 to 32,767, a denominator 1 to 32,767,
+-- lowest terms
 unfoldable pub declared : Rational → Bool
-declared a = leb (natAbs (a .num)) 32768 && ltb 0 (a .den) && leb (a .den) 32767 && eqb (gcd (natAbs (a .num)) (a .den)) 1
+declared a =
+    leb (natAbs (a .num)) 32768 && ltb 0 (a .den) && leb (a .den) 32767 && eqb (gcd (natAbs (a .num)) (a .den)) 1 && leb (up (a .num)) 32767
 
 -- ---- what the laws speak of
 -- r is the sum, difference, product or opposite: in ℤ, multiplied across
@@ -102,3 +104,4 @@ pub record Declared (a : Rational) : Type 0 where
   pub reduced : Reduced a
   pub num : natAbs (a .num) ≤ 32768
   pub den : a .den ≤ 32767
+  pub top : up (a .num) ≤ 32767

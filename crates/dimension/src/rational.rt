@@ -193,9 +193,14 @@ impl Rational {
         ensures { λ r. ⌜ r ≡ F.declared self ⌝ }
     {
         let n = size(self.num);
+        let above = up(self.num);
         if self.den == 1 {
-            return n <= 32768;
+            return (n <= 32768) & (above <= 32767);
         }
-        (n <= 32768) & (0 < self.den) & (self.den <= 32767) & (gcd(n, self.den as u64) == 1)
+        (n <= 32768)
+            & (0 < self.den)
+            & (self.den <= 32767)
+            & (gcd(n, self.den as u64) == 1)
+            & (above <= 32767)
     }
 }

@@ -3,10 +3,10 @@ use Prim.Native.Nat.{ℕ}
 use mathlib.Core.Bool.{cond, not, _||_}
 use mathlib.Core.List.{List, [], _∷_}
 use mathlib.Core.Option.{Option, some, none}
-use lib.Dec.{eqb}
+use lib.Dec.{eqb, ltb}
 use lib.ListN.{getD}
 use Rattle.laws.specs.Options.{found, orElse}
-use Rattle.laws.specs.Out.{given, refused, _>>=_, _>>_, refuseIf, needed, known}
+use Rattle.laws.specs.Out.{Out, given, refused, _>>=_, _>>_, refuseIf, needed, known}
 use Rattle.dimension.specs.Fraction as F
 use Rattle.dimension.specs.Dimension as D
 use Rattle.dimension.specs.Grade as G
@@ -17,19 +17,28 @@ use Rattle.dimension.specs.declared.grade.ProductOp.the-variants.{Mul, Div, Dot
 use Rattle.dimension.specs.declared.grade.Grade.{Grade}
 use Rattle.dimension.specs.declared.grade.Grade.the-variants.{Single, Absent}
 use Rattle.rules.specs.Kinds.{Kinds, Rows, Graded, point, duration, candidates}
-use Rattle.rules.specs.Refusal.{Answer, Refusal, UnresolvedDimensions, Point, Ungraded, PowerOverLimits, KindMismatch, UnsupportedOperation, UnresolvedTwin, NoProductKind, UngradedPower, NoPowerKind, UnresolvedPowerTwin, absent, codeOf}
+use Rattle.rules.specs.Refusal.{Answer, Refusal, UnresolvedDimensions, Point, Ungraded, PowerOverLimits, NoKind, KindMismatch, UnsupportedOperation, UnresolvedTwin, NoProductKind, UngradedPower, NoPowerKind, UnresolvedPowerTwin, absent, codeOf}
+
+-- 41: "kind index past the end"
+unfoldable pub indexed : Kinds → ℕ → Answer (Unit {0})
+indexed K k = refuseIf (not (ltb k (K .count))) (NoKind k)
 
 -- 19
 unfoldable pub resolved : Kinds → ℕ → Answer Dimensions
 resolved K k = needed (K .dims k) (UnresolvedDimensions k)
 
 -- 24
-abbrev single : Grade → Refusal → Answer ℕ
-single (Single g) x = given g
-single Absent x = refused x
+module _ {E : Type 0} where
+  abbrev pub single : Grade → E → Out E ℕ
+  single (Single g) x = given g
+  single Absent x = refused x
+
+-- the grade rule of this catalog
+unfoldable pub gradeBy : Kinds → ProductOp → ℕ → ℕ → Grade
+gradeBy K op a b = G.product op a b
 
 unfoldable pub graded : Kinds → ℕ → ProductOp → ℕ → Answer ℕ
-graded K l op r = single (G.product op (K .grade l) (K .grade r)) (Ungraded l r (K .grade l) (K .grade r))
+graded K l op r = single (gradeBy K op (K .grade l) (K .grade r)) (Ungraded l r (K .grade l) (K .grade r))
 
 -- "products add or subtract exponents"
 unfoldable pub joined : ProductOp → Dimensions → Dimensions → Dimensions
@@ -118,6 +127,12 @@ sumBy s none none l r = agree l r l
 unfoldable pub sum : Kinds → Sum → ℕ → ℕ → Answer ℕ
 sum K s l r = sumBy s (K .difference l) (K .difference r) l r
 
+-- times or over a number, or without its sign: the Rust's `Kind::scaled`
+unfoldable pub scaled : Kinds → ℕ → ℕ → Answer ℕ
+scaled K code k = do
+  refuseIf (point K k) (UnsupportedOperation code k absent)
+  given k
+
 -- ---- powers
 -- "then exponent zero or the dimensionless kind gives that kind where declared"
 unfoldable pub flat : Kinds → ℕ → Rational → Option ℕ
@@ -135,14 +150,8 @@ raised K k e = do
 unfoldable pub power : Kinds → ℕ → ℕ → Option Rational → Answer ℕ
 power K code k none = refused (UnsupportedOperation code k absent)
 power K code k (some e) = do
-  refuseIf (point K k) (UnsupportedOperation code k absent)
+  scaled K code k
   cond (F.isOne e) (given k) (raised K k e)
-
--- times or over a number, or without its sign: the Rust's `Kind::scaled`
-unfoldable pub scaled : Kinds → ℕ → ℕ → Answer ℕ
-scaled K code k = do
-  refuseIf (point K k) (UnsupportedOperation code k absent)
-  given k
 
 -- ---- the Rust's `Op`: what two kinds are combined by
 pub data Op : Type 0 where

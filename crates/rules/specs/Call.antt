@@ -1,13 +1,12 @@
 -- One call of a formula over lent words and bytes. "Order: 5, 40, 50, then token by token".
 use Prim.Native.Nat.{ℕ}
-use mathlib.Core.Bool.{not, cond, _&&_}
+use mathlib.Core.Bool.{cond}
 use mathlib.Core.List.{List}
-use Rattle.laws.specs.Out.{given, refused, _>>_, refuseIf}
-use Rattle.laws.specs.Ranges.{overlay}
+use Rattle.laws.specs.Out.{given, refused, _>>_}
 use Rattle.rules.specs.Kinds.{Kinds, Rows}
-use Rattle.rules.specs.Refusal.{Refusal, Placed, at, NoTable, Malformed, told}
-use Rattle.rules.specs.Table.{kindsOf, rowsOf, isTable, areRows}
-use Rattle.rules.specs.Lookup.{roomy}
+use Rattle.rules.specs.Refusal.{Refusal, Placed, at, Malformed}
+use Rattle.rules.specs.Table.{kindsOf, rowsOf}
+use Rattle.rules.specs.Lookup.{roomy, tabled}
 use Rattle.rules.specs.Formula.{Ended, answered, stopped, malformed, Term, formula}
 use Rattle.rules.specs.Token.{tokensIn, goodLength}
 
@@ -24,11 +23,5 @@ formulaIn K rows bytes = ending (cond (goodLength bytes) (formula K rows (tokens
 unfoldable pub call : List ℕ → List ℕ → List ℕ → List ℕ → Placed Term
 call table rows twins bytes = do
   at 0 (roomy table twins)
-  at 0 (refuseIf (not (isTable table && areRows (kindsOf table .count) rows)) NoTable)
+  at 0 (tabled table rows)
   formulaIn (kindsOf table) (rowsOf rows) bytes
-
--- what the twin list then holds
-module _ {A : Type 0} where
-  unfoldable pub twinsAfter : Placed A → List ℕ → List ℕ
-  twinsAfter (given a) old = old
-  twinsAfter (refused x) old = overlay (told (x .refusal) .twins) old

@@ -14,6 +14,7 @@ use Rattle.dimension.specs.declared.dimensions.Dimensions.{Dimensions}
 use Rattle.dimension.specs.declared.grade.ProductOp.{ProductOp}
 use Rattle.dimension.specs.declared.grade.ProductOp.the-variants.{Mul, Div, Dot, Wedge}
 use Rattle.rules.specs.Kinds.{Kinds, Rows}
+use Rattle.rules.specs.Refusal.{codeOf}
 use Rattle.rules.specs.Bytes.{byte, le2}
 use Rattle.rules.specs.Layout.{kindCount, rowCount, kindBlocks}
 
@@ -120,22 +121,7 @@ abbrev pub meant : ℕ → Option ℕ → Bool
 meant k o = found o (λ j. eqb j k) false
 
 abbrev pub sameOp : ProductOp → ProductOp → Bool
-sameOp Mul Mul = true
-sameOp Mul Div = false
-sameOp Mul Dot = false
-sameOp Mul Wedge = false
-sameOp Div Mul = false
-sameOp Div Div = true
-sameOp Div Dot = false
-sameOp Div Wedge = false
-sameOp Dot Mul = false
-sameOp Dot Div = false
-sameOp Dot Dot = true
-sameOp Dot Wedge = false
-sameOp Wedge Mul = false
-sameOp Wedge Div = false
-sameOp Wedge Dot = false
-sameOp Wedge Wedge = true
+sameOp a b = eqb (codeOf a) (codeOf b)
 
 module _ (C : Catalog) where
   -- the first kind of this id

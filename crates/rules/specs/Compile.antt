@@ -9,7 +9,7 @@ use Rattle.laws.specs.Ranges.{first}
 use Rattle.dimension.specs.Dimension as D
 use Rattle.dimension.specs.declared.dimensions.Dimensions.{Dimensions}
 use Rattle.dimension.specs.declared.grade.ProductOp.the-variants.{Div}
-use Rattle.rules.specs.Kinds.{Kinds, Rows, Graded, point, duration}
+use Rattle.rules.specs.Kinds.{Kinds, Rows, Graded, point, duration, carries}
 use Rattle.rules.specs.Refusal.{Answer, Placed, at, EmptyId, Duplicate, Unknown, AffineDimensionMismatch, NestedAffineSpace, InvalidDimensionlessKind, InvalidTimeKind, NoTimeKind, PointRate, RateMismatch, AlsoRateOf, CommutativeQuotient, Point, InvalidOperationRule, DerivedOperationRule, ConflictingOperationRule}
 use Rattle.rules.specs.Arithmetic.{Resolved, is, twins, nothing, resolved, derive, resolve}
 use Rattle.rules.specs.Catalog.{Id, blank, same, Catalog, sameOp, find, rateAmong, isDifference, kindsOf, rowAmong, rowsOf}
@@ -73,9 +73,10 @@ module _ (C : Catalog) where
     refuseIf (point K k) (PointRate k t k)
     refuseIf (point K t) (PointRate k t t)
     a ← resolved K k
-    b ← resolved K t
+    resolved K t
     c ← resolved K d
-    refuseIf (not (D.equal (D.product a c .value) b && eqb (K .grade k) (K .grade t))) (RateMismatch (record { dims = D.product a c .value; grade = K .grade k }))
+    x ← given (record { dims = D.product a c .value; grade = K .grade k })
+    refuseIf (not (carries K x t)) (RateMismatch x)
     refuseFound (rateAmong C k t) AlsoRateOf)
 
   -- 25, 26: "it is accepted only where several kinds fit and it names one of them"
@@ -97,9 +98,9 @@ module _ (C : Catalog) where
     r ← called i (C .row i .right)
     k ← called i (C .row i .result)
     refuseIf (point K k) (Point l (C .row i .op) r k)
-    d ← resolved K k
+    resolved K k
     x ← derive K l (C .row i .op) r
-    refuseIf (not (D.equal d (x .dims) && eqb (K .grade k) (x .grade))) (InvalidOperationRule x)
+    refuseIf (not (carries K x k)) (InvalidOperationRule x)
     several (resolve K l (C .row i .op) r x) x
     fresh i l r
     cond (C .row i .commutative) (fresh i r l) (given tt)

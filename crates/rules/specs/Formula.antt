@@ -8,19 +8,16 @@ use lib.Dec.{ltb}
 use lib.IntN.{pos, negℤ}
 use lib.ListN.{length}
 use Rattle.laws.specs.Options.{found}
-use Rattle.laws.specs.Out.{Out, given, refused, mapped}
+use Rattle.laws.specs.Out.{Out, given, refused, mapped, _>>_}
 use Rattle.dimension.specs.Fraction as F
 use Rattle.dimension.specs.Dimension as D
-use Rattle.dimension.specs.Grade as G
 use Rattle.dimension.specs.declared.rational.Rational.{Rational}
 use Rattle.dimension.specs.declared.dimensions.Dimensions.{Dimensions}
 use Rattle.dimension.specs.declared.grade.ProductOp.{ProductOp}
 use Rattle.dimension.specs.declared.grade.ProductOp.the-variants.{Mul, Div, Dot, Wedge}
-use Rattle.dimension.specs.declared.grade.Grade.{Grade}
-use Rattle.dimension.specs.declared.grade.Grade.the-variants.{Single, Absent}
 use Rattle.rules.specs.Kinds.{Kinds, Rows}
-use Rattle.rules.specs.Refusal.{Refusal, Answer, NoKind, NumberTerm}
-use Rattle.rules.specs.Arithmetic.{Op, summed, multiplied, opCode, combine, power, scaled, agree, joined}
+use Rattle.rules.specs.Refusal.{Refusal, Answer, NumberTerm}
+use Rattle.rules.specs.Arithmetic.{Op, summed, multiplied, opCode, combine, power, scaled, agree, joined, single, indexed, gradeBy}
 
 -- ---- tokens
 pub data Unary : Type 0 where
@@ -118,23 +115,14 @@ pub data Term : Type 0 where
 abbrev minusOne : Rational
 minusOne = F.ratio (negℤ (pos 1)) 1
 
--- kind by number
-unfoldable pub byNumber : Kinds → Binary → ℕ → Answer ℕ
-byNumber K (combined (multiplied Mul)) k = scaled K 4 k
-byNumber K (combined (multiplied Div)) k = scaled K 5 k
-byNumber K (combined (multiplied Dot)) k = refused (NumberTerm 6 k)
-byNumber K (combined (multiplied Wedge)) k = refused (NumberTerm 7 k)
-byNumber K (combined (summed s)) k = refused (NumberTerm (opCode (summed s)) k)
-byNumber K compared k = refused (NumberTerm 11 k)
-
--- number by kind: the same but for a quotient, which is the kind's power −1
-unfoldable pub numberBy : Kinds → Binary → ℕ → Answer ℕ
-numberBy K (combined (multiplied Mul)) k = scaled K 4 k
-numberBy K (combined (multiplied Div)) k = power K 5 k (some minusOne)
-numberBy K (combined (multiplied Dot)) k = refused (NumberTerm 6 k)
-numberBy K (combined (multiplied Wedge)) k = refused (NumberTerm 7 k)
-numberBy K (combined (summed s)) k = refused (NumberTerm (opCode (summed s)) k)
-numberBy K compared k = refused (NumberTerm 11 k)
+-- a kind with a number, on either side; `quotient` is what their quotient is
+unfoldable pub withNumber : Kinds → Binary → ℕ → Answer ℕ → Answer ℕ
+withNumber K (combined (multiplied Mul)) k quotient = scaled K 4 k
+withNumber K (combined (multiplied Div)) k quotient = quotient
+withNumber K (combined (multiplied Dot)) k quotient = refused (NumberTerm 6 k)
+withNumber K (combined (multiplied Wedge)) k quotient = refused (NumberTerm 7 k)
+withNumber K (combined (summed s)) k quotient = refused (NumberTerm (opCode (summed s)) k)
+withNumber K compared k quotient = refused (NumberTerm 11 k)
 
 unfoldable pub twoKinds : Kinds → Rows → Binary → ℕ → ℕ → Answer ℕ
 twoKinds K rows (combined op) l r = combine K rows op l r
@@ -148,8 +136,8 @@ oneKind K absolute k = scaled K 10 k
 unfoldable pub binaryTerm : Kinds → Rows → Binary → Term → Term → Answer Term
 binaryTerm K rows b Number Number = given Number
 binaryTerm K rows b (Kind l) (Kind r) = mapped Kind (twoKinds K rows b l r)
-binaryTerm K rows b (Kind k) Number = mapped Kind (byNumber K b k)
-binaryTerm K rows b Number (Kind k) = mapped Kind (numberBy K b k)
+binaryTerm K rows b (Kind k) Number = mapped Kind (withNumber K b k (scaled K 5 k))
+binaryTerm K rows b Number (Kind k) = mapped Kind (withNumber K b k (power K 5 k (some minusOne)))
 
 unfoldable pub unaryTerm : Kinds → Unary → Term → Answer Term
 unaryTerm K u Number = given Number
@@ -157,7 +145,9 @@ unaryTerm K u (Kind k) = mapped Kind (oneKind K u k)
 
 -- 41
 unfoldable pub kindTerm : Kinds → ℕ → Answer Term
-kindTerm K k = cond (ltb k (K .count)) (given (Kind k)) (refused (NoKind k))
+kindTerm K k = do
+  indexed K k
+  given (Kind k)
 
 unfoldable pub terms : Kinds → Rows → Machine Refusal Term
 terms K rows = record { number = Number; kind = kindTerm K; unary = unaryTerm K; binary = binaryTerm K rows }
@@ -186,28 +176,24 @@ both op none o = none
 abbrev pub powered : Rational → Option Dimensions → ℕ → Meaning
 powered e a g = cond (F.isOne e) (of a g) (of (found a (λ d. some (D.power d e .value)) none) 0)
 
-abbrev single : Grade → (ℕ → Meaning) → Out (Unit {0}) Meaning
-single (Single g) f = given (f g)
-single Absent f = refused tt
-
 -- "and use the grade rule"; "scaling (by a number) .. keep; number / kind is power −1; numbers alone give a number"
-unfoldable pub productOf : ProductOp → Meaning → Meaning → Out (Unit {0}) Meaning
-productOf op plain plain = given plain
-productOf op (of a g) (of b h) = single (G.product op g h) (of (both op a b))
-productOf Mul (of a g) plain = given (of a g)
-productOf Div (of a g) plain = given (of a g)
-productOf Dot (of a g) plain = refused tt
-productOf Wedge (of a g) plain = refused tt
-productOf Mul plain (of b h) = given (of b h)
-productOf Div plain (of b h) = given (powered minusOne b h)
-productOf Dot plain (of b h) = refused tt
-productOf Wedge plain (of b h) = refused tt
+unfoldable pub productOf : Kinds → ProductOp → Meaning → Meaning → Out (Unit {0}) Meaning
+productOf K op plain plain = given plain
+productOf K op (of a g) (of b h) = mapped (of (both op a b)) (single (gradeBy K op g h) tt)
+productOf K Mul (of a g) plain = given (of a g)
+productOf K Div (of a g) plain = given (of a g)
+productOf K Dot (of a g) plain = refused tt
+productOf K Wedge (of a g) plain = refused tt
+productOf K Mul plain (of b h) = given (of b h)
+productOf K Div plain (of b h) = given (powered minusOne b h)
+productOf K Dot plain (of b h) = refused tt
+productOf K Wedge plain (of b h) = refused tt
 
 -- "sum and compare take the left's"
-unfoldable pub binaryOf : Binary → Meaning → Meaning → Out (Unit {0}) Meaning
-binaryOf (combined (summed s)) m n = given m
-binaryOf (combined (multiplied op)) m n = productOf op m n
-binaryOf compared m n = given m
+unfoldable pub binaryOf : Kinds → Binary → Meaning → Meaning → Out (Unit {0}) Meaning
+binaryOf K (combined (summed s)) m n = given m
+binaryOf K (combined (multiplied op)) m n = productOf K op m n
+binaryOf K compared m n = given m
 
 -- "absolute keep"
 unfoldable pub unaryOf : Unary → Meaning → Out (Unit {0}) Meaning
@@ -218,7 +204,7 @@ unaryOf inexact (of a g) = refused tt
 unaryOf absolute m = given m
 
 unfoldable pub meanings : Kinds → Machine (Unit {0}) Meaning
-meanings K = record { number = plain; kind = λ k. given (meaning K (Kind k)); unary = unaryOf; binary = binaryOf }
+meanings K = record { number = plain; kind = λ k. given (meaning K (Kind k)); unary = unaryOf; binary = binaryOf K }
 
 unfoldable pub calculation : Kinds → List Token → Ended (Unit {0}) Meaning
 calculation K toks = walk (meanings K) toks 0 []

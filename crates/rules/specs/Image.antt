@@ -6,12 +6,13 @@ use lib.Dec.{eqb, ltb}
 use lib.ListN.{length}
 use Rattle.laws.specs.Options.{found}
 use Rattle.laws.specs.Out.{given, refused, _>>_, refuseIf}
-use Rattle.laws.specs.Ranges.{first}
+use Rattle.laws.specs.Ranges.{first, overlay}
 use Rattle.rules.specs.Bytes.{le2, le4, blockSum}
 use Rattle.rules.specs.Layout.{byteWrong}
 use Rattle.rules.specs.Refusal.{Refusal, Placed, at, ImageLength, Short, WrongBlock, Schema, WrongByte}
 use Rattle.rules.specs.Catalog.{catalogIn}
 use Rattle.rules.specs.Compile.{Compiled, compile}
+use Rattle.rules.specs.Table.{tableWords}
 
 -- 1: "1 to 121 blocks of 512 bytes"
 unfoldable pub lengthCheck : List ℕ → Placed (Unit {0})
@@ -54,3 +55,7 @@ compileImage s room = do
   roomCheck room
   readable s
   compile (catalogIn s)
+
+-- "A compilation that succeeds writes the table's first 9,296 words and nothing else"
+unfoldable pub tableAfter : List ℕ → List ℕ → List ℕ
+tableAfter s old = elim (compileImage s (length old)) [ given c ↦ overlay (tableWords (catalogIn s)) old | refused x ↦ old ]

@@ -39,9 +39,13 @@ pub record Graded : Type 0 where
   pub dims : Dimensions
   pub grade : ℕ
 
--- "one fitting non-point kind": no point, of this grade, with exactly these dimensions
+-- "a kind carries both if its record gives exactly these"
+unfoldable pub carries : Kinds → Graded → ℕ → Bool
+carries K x k = eqb (K .grade k) (x .grade) && found (K .dims k) (λ d. D.equal d (x .dims)) false
+
+-- "one fitting non-point kind"
 unfoldable pub fits : Kinds → Graded → ℕ → Bool
-fits K x k = not (point K k) && (eqb (K .grade k) (x .grade) && found (K .dims k) (λ d. D.equal d (x .dims)) false)
+fits K x k = not (point K k) && carries K x k
 
 -- the kinds that fit, ascending
 abbrev pub candidates : Kinds → Graded → List ℕ

@@ -2,19 +2,17 @@
 -- right." Its place is 0.
 use Prim.Native.Nat.{ℕ}
 use mathlib.Core.Bool.{not, _&&_}
-use mathlib.Core.List.{List}
+use mathlib.Core.List.{List, []}
 use mathlib.Core.Option.{Option, some, none}
 use lib.Dec.{ltb}
 use lib.IntN.{ℤ}
 use lib.ListN.{length}
 use Rattle.laws.specs.Out.{given, refused, _>>=_, _>>_, refuseIf, needed}
-use Rattle.laws.specs.Ranges.{overlay}
 use Rattle.dimension.specs.Fraction as F
 use Rattle.dimension.specs.declared.rational.Rational.{Rational}
 use Rattle.dimension.specs.declared.rational.Ratio.{Ratio}
 use Rattle.dimension.specs.declared.rational.Ratio.the-variants.{Is, Over}
-use Rattle.rules.specs.Kinds.{Kinds}
-use Rattle.rules.specs.Refusal.{Answer, Short, NoTable, NoKind, Malformed, told}
+use Rattle.rules.specs.Refusal.{Answer, Placed, at, Short, NoTable, Malformed}
 use Rattle.rules.specs.Arithmetic as rule
 use Rattle.rules.specs.Table.{kindsOf, rowsOf, isTable, areRows}
 
@@ -24,18 +22,18 @@ roomy table twins = do
   refuseIf (ltb (length table) 9296) (Short (length table))
   refuseIf (ltb (length twins) 240) (Short (length twins))
 
--- 41: "kind index past the end"
-unfoldable pub indexed : Kinds → ℕ → Answer (Unit {0})
-indexed K k = refuseIf (not (ltb k (K .count))) (NoKind k)
+-- 40
+unfoldable pub tabled : List ℕ → List ℕ → Answer (Unit {0})
+tabled table rows = refuseIf (not (isTable table && areRows table rows)) NoTable
 
-unfoldable pub combine : List ℕ → List ℕ → List ℕ → ℕ → ℕ → ℕ → Answer ℕ
-combine table rows twins code l r = do
+unfoldable pub combine : List ℕ → List ℕ → List ℕ → ℕ → ℕ → ℕ → Placed ℕ
+combine table rows twins code l r = at 0 (do
   roomy table twins
-  refuseIf (not (isTable table && areRows (kindsOf table .count) rows)) NoTable
+  tabled table rows
   op ← needed (rule.opBy code) (Malformed 0)
-  indexed (kindsOf table) l
-  indexed (kindsOf table) r
-  rule.combine (kindsOf table) (rowsOf rows) op l r
+  rule.indexed (kindsOf table) l
+  rule.indexed (kindsOf table) r
+  rule.combine (kindsOf table) (rowsOf rows) op l r)
 
 -- an exponent as it is handed over: inexact, or a numerator and a denominator, "reduced first"
 pub data Exponent : Type 0 where
@@ -55,16 +53,10 @@ abbrev pub powerCode : Exponent → ℕ
 powerCode (exact n d) = 8
 powerCode inexact = 9
 
-unfoldable pub power : List ℕ → List ℕ → ℕ → Exponent → Answer ℕ
-power table twins k x = do
+unfoldable pub power : List ℕ → List ℕ → ℕ → Exponent → Placed ℕ
+power table twins k x = at 0 (do
   roomy table twins
-  refuseIf (not (isTable table)) NoTable
+  tabled table []
   e ← exponent x
-  indexed (kindsOf table) k
-  rule.power (kindsOf table) (powerCode x) k e
-
--- what the twin list then holds: "all but the first count twin entries" stay
-module _ {A : Type 0} where
-  unfoldable pub twinsAfter : Answer A → List ℕ → List ℕ
-  twinsAfter (given a) old = old
-  twinsAfter (refused x) old = overlay (told x .twins) old
+  rule.indexed (kindsOf table) k
+  rule.power (kindsOf table) (powerCode x) k e)

@@ -4,6 +4,7 @@ use mathlib.Core.List.{List, [], _∷_}
 use mathlib.Core.Option.{Option, some, none}
 use lib.ListN.{length}
 use Rattle.laws.specs.Out.{Out, given, refused}
+use Rattle.laws.specs.Ranges.{overlay}
 use Rattle.dimension.specs.declared.dimensions.Dimensions.{Dimensions}
 use Rattle.dimension.specs.declared.grade.ProductOp.{ProductOp}
 use Rattle.dimension.specs.declared.grade.ProductOp.the-variants.{Mul, Div, Dot, Wedge}
@@ -130,3 +131,8 @@ module _ {A : Type 0} where
   abbrev pub at : ℕ → Answer A → Placed A
   at p (given a) = given a
   at p (refused x) = refused (record { place = p; refusal = x })
+
+  -- what the twin list then holds: "all but the first count twin entries" stay
+  unfoldable pub twinsAfter : Placed A → List ℕ → List ℕ
+  twinsAfter (given a) old = old
+  twinsAfter (refused x) old = overlay (told (x .refusal) .twins) old

@@ -5,7 +5,7 @@ use mathlib.Core.Bool.{Bool, true, cond, not, _&&_, _||_}
 use mathlib.Core.List.{List, [], _∷_, _++_}
 use mathlib.Core.Option.{Option, some, none}
 use lib.Dec.{eqb, ltb, leb}
-use lib.ListN.{length, getD}
+use lib.ListN.{length, getD, take, drop}
 use Rattle.laws.specs.Options.{found, isSome}
 use Rattle.laws.specs.Ranges.{first, all, tab, below}
 use Rattle.dimension.specs.Integer as I
@@ -72,36 +72,43 @@ rowsOf s l op r = found (first (isRow s l op r) (length s / 4)) (λ i. some (wor
 
 -- ---- 40: "Words are a table exactly if counts, indexes, roles, grades and declared exponents lie in their ranges, fractions reduced, and exactly
 -- the points have a difference."
--- an index below n, or none
-abbrev pub linkFine : ℕ → ℕ → Bool
-linkFine n w = ltb w n || eqb w absent
+-- the index of a kind of the table; such an index, or none
+abbrev pub isKind : List ℕ → ℕ → Bool
+isKind t w = ltb w (word t 0)
+
+abbrev pub linkFine : List ℕ → ℕ → Bool
+linkFine t w = isKind t w || eqb w absent
 
 unfoldable pub headFine : List ℕ → Bool
-headFine t = leb (word t 0) 240 && leb (word t 1) 400 && linkFine (word t 0) (word t 2) && linkFine (word t 0) (word t 3)
+headFine t = leb (word t 0) 240 && leb (word t 1) 400 && linkFine t (word t 2) && linkFine t (word t 3)
 
 -- the kind whose words begin at p, of n: flag, grade, role; difference exactly for a point (role 1), rate-of, rate; a given dimension's exponents
-unfoldable pub marksFine : ℕ → List ℕ → ℕ → Bool
-marksFine n t p =
+unfoldable pub marksFine : List ℕ → ℕ → Bool
+marksFine t p =
     ltb (word t (p + 24)) 2 && ltb (word t (p + 25)) 4 && ltb (word t (p + 26)) 3
-    && cond (eqb (word t (p + 26)) 1) (ltb (word t (p + 27)) n) (eqb (word t (p + 27)) absent)
-    && linkFine n (word t (p + 28)) && linkFine n (word t (p + 29))
+    && cond (eqb (word t (p + 26)) 1) (isKind t (word t (p + 27))) (eqb (word t (p + 27)) absent)
+    && linkFine t (word t (p + 28)) && linkFine t (word t (p + 29))
 
 unfoldable pub exponentsFine : List ℕ → ℕ → Bool
 exponentsFine t p = cond (eqb (word t (p + 24)) 1) (all (λ b. F.declared (exponentFrom t p b)) 12) true
 
-unfoldable pub kindFine : ℕ → List ℕ → ℕ → Bool
-kindFine n t k = marksFine n t (kindPlace k) && exponentsFine t (kindPlace k)
+unfoldable pub kindFine : List ℕ → ℕ → Bool
+kindFine t k = marksFine t (kindPlace k) && exponentsFine t (kindPlace k)
 
--- the row whose words begin at p, over n kinds
-unfoldable pub rowFine : ℕ → List ℕ → ℕ → Bool
-rowFine n s p = ltb (word s p) n && ltb (word s (p + 1)) 4 && ltb (word s (p + 2)) n && ltb (word s (p + 3)) n
+-- the row whose words begin at p of s, over the kinds of t
+unfoldable pub rowFine : List ℕ → List ℕ → ℕ → Bool
+rowFine t s p = isKind t (word s p) && ltb (word s (p + 1)) 4 && isKind t (word s (p + 2)) && isKind t (word s (p + 3))
 
 unfoldable pub isTable : List ℕ → Bool
-isTable t = headFine t && all (kindFine (word t 0) t) (word t 0) && all (λ i. rowFine (word t 0) t (rowPlace i)) (word t 1)
+isTable t = headFine t && all (kindFine t) (word t 0) && all (λ i. rowFine t t (rowPlace i)) (word t 1)
 
 -- "The rows in force are lent to the lookup as a list of row records; one out of range is 40"
-unfoldable pub areRows : ℕ → List ℕ → Bool
-areRows n s = eqb (length s % 4) 0 && all (λ i. rowFine n s (4 * i)) (length s / 4)
+unfoldable pub areRows : List ℕ → List ℕ → Bool
+areRows t s = eqb (length s % 4) 0 && all (λ i. rowFine t s (4 * i)) (length s / 4)
+
+-- the rows of the table itself, as they are lent
+unfoldable pub ownRows : List ℕ → List ℕ
+ownRows t = take (4 * word t 1) (drop (rowPlace 0) t)
 
 -- ---- what a compilation writes: "the table's first 9,296 words and nothing else"
 -- a row in force

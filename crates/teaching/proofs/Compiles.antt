@@ -14,7 +14,7 @@ use Rattle.laws.specs.Ranges.{first, sum, tab, below}
 use Rattle.dimension.specs.Gcd.{gcd, euclid}
 use Rattle.dimension.specs.Fraction as F
 use Rattle.dimension.specs.Dimension as D
-use Rattle.rules.specs.Kinds.{Kinds, Rows}
+use Rattle.rules.specs.Kinds.{Kinds, Rows, carries}
 use Rattle.rules.specs.Arithmetic.{resolved}
 use Rattle.rules.specs.Bytes.{le2, le4, blockSum}
 use Rattle.rules.specs.Layout.{filled, idWrong, headerWrong, idsWrong, exponentWrong, kindWrong, rowWrong, headWrong, spareWrong, blockWrong, byteWrong}
@@ -40,7 +40,7 @@ image-readable = rw (blocks-right, layout-right)
 
 -- ---- 10 to 27
 pub rules-kept : compiles (catalogIn image) ≡ given tt
-unfolding compiles each idRule differenceRule linear dimensionlessRule timeRule rateRule called blank same find link rateAmong isDifference kindsOf below resolved catalogIn kindFrom dimsAt exponentAt idAt tab first le2 image D.product D.outcome D.equal F.sum F.answer F.limited F.within F.lowest F.equal gcd euclid zipWith
+unfolding compiles each idRule differenceRule linear dimensionlessRule timeRule rateRule carries called blank same find link rateAmong isDifference kindsOf below resolved catalogIn kindFrom dimsAt exponentAt idAt tab first le2 image D.product D.outcome D.equal F.sum F.answer F.limited F.within F.lowest F.equal gcd euclid zipWith
 rules-kept = refl
 
 -- ---- what is declared, kind by kind, is what is listed

@@ -16,9 +16,9 @@ use Rattle.dimension.specs.Grade as G
 use Rattle.dimension.specs.declared.rational.Rational.{Rational}
 use Rattle.dimension.specs.declared.grade.ProductOp.{ProductOp}
 use Rattle.dimension.specs.declared.grade.ProductOp.the-variants.{Mul, Div}
-use Rattle.rules.specs.Kinds.{Kinds, Rows, Graded, point, fits}
+use Rattle.rules.specs.Kinds.{Kinds, Rows, Graded, point, fits, carries}
 use Rattle.rules.specs.Refusal.{Answer, UnresolvedDimensions, UnresolvedTwin, NoProductKind, CommutativeQuotient, Unknown, UnsupportedOperation, absent}
-use Rattle.rules.specs.Arithmetic.{resolved, graded, joined, derive, neutralBy, neutral, ratedBy, rated, fitting, first-of, settle, resolve, product, raised, power}
+use Rattle.rules.specs.Arithmetic.{resolved, graded, gradeBy, joined, derive, neutralBy, neutral, ratedBy, rated, fitting, first-of, settle, resolve, product, raised, power, scaled}
 use Rattle.rules.specs.Catalog.{Catalog, Row, noKind, sameOp, find, same, blank, link, kindsOf}
 use Rattle.rules.specs.Compile.{Checked, called, rowRule}
 use Rattle.teaching.specs.Listed.{unlisted, kindsBy, bases, listed, teaching, noRows}
@@ -35,7 +35,7 @@ abbrev unresolved : Kinds
 unresolved = kindsBy (unlisted ∷ []) none none
 
 power-right : power unresolved 8 0 (some F.one) ≡ given 0
-unfolding power F.isOne
+unfolding power scaled F.isOne
 power-right = refl
 
 power-wrong : earlyPower unresolved 0 F.one ≡ refused (UnresolvedDimensions 0)
@@ -49,11 +49,11 @@ lateRate K rows l op r = do
   settle (first-of (neutral K l op r) (fitting (picked (fits K x) (K .count)))) (NoProductKind x) (λ ks. known (rows l op r) (refused (UnresolvedTwin l op r ks)))
 
 rate-right : product teaching noRows 2 Mul 4 ≡ given 1
-unfolding teaching listed product derive resolved graded joined neutral neutralBy rated ratedBy resolve fits picked D.product D.outcome D.equal G.product F.sum F.answer F.limited F.within F.lowest F.equal gcd euclid zipWith
+unfolding teaching listed product derive resolved graded gradeBy joined neutral neutralBy rated ratedBy resolve fits carries picked D.product D.outcome D.equal G.product F.sum F.answer F.limited F.within F.lowest F.equal gcd euclid zipWith
 rate-right = refl
 
 rate-wrong : lateRate teaching noRows 2 Mul 4 ≡ refused (UnresolvedTwin 2 Mul 4 (1 ∷ 5 ∷ []))
-unfolding lateRate teaching listed derive resolved graded joined neutral neutralBy fits picked D.product D.outcome D.equal G.product F.sum F.answer F.limited F.within F.lowest F.equal gcd euclid zipWith
+unfolding lateRate teaching listed derive resolved graded gradeBy joined neutral neutralBy fits carries picked D.product D.outcome D.equal G.product F.sum F.answer F.limited F.within F.lowest F.equal gcd euclid zipWith
 rate-wrong = refl
 
 -- ---- "looking up ids before 22"
@@ -90,7 +90,7 @@ abbrev span : Graded
 span = record { dims = bases (pos 0) (pos 1); grade = 0 }
 
 fit-right : picked (fits teaching span) 9 ≡ 4 ∷ []
-unfolding teaching listed fits picked D.equal F.equal
+unfolding teaching listed fits carries picked D.equal F.equal
 fit-right = refl
 
 fit-wrong : picked (fitsPoint teaching span) 9 ≡ 3 ∷ 4 ∷ []
@@ -98,5 +98,5 @@ unfolding teaching listed fitsPoint picked D.equal F.equal
 fit-wrong = refl
 
 product-right : product teaching noRows 1 Div 2 ≡ given 4
-unfolding teaching listed product derive resolved graded joined neutral neutralBy rated ratedBy resolve fits picked D.quotient D.outcome D.equal G.product F.difference F.answer F.limited F.within F.lowest F.equal gcd euclid zipWith
+unfolding teaching listed product derive resolved graded gradeBy joined neutral neutralBy rated ratedBy resolve fits carries picked D.quotient D.outcome D.equal G.product F.difference F.answer F.limited F.within F.lowest F.equal gcd euclid zipWith
 product-right = refl

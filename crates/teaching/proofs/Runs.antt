@@ -12,9 +12,9 @@ use Rattle.dimension.specs.Fraction as F
 use Rattle.dimension.specs.Dimension as D
 use Rattle.dimension.specs.Grade as G
 use Rattle.dimension.specs.declared.grade.ProductOp.the-variants.{Mul}
-use Rattle.rules.specs.Kinds.{fits}
+use Rattle.rules.specs.Kinds.{fits, carries}
 use Rattle.rules.specs.Refusal.{Fault, Placed, DerivedOperationRule, UnresolvedTwin, told}
-use Rattle.rules.specs.Arithmetic.{multiplied, resolved, graded, joined, derive, neutralBy, neutral, ratedBy, rated, resolve, product, combine}
+use Rattle.rules.specs.Arithmetic.{multiplied, resolved, graded, gradeBy, joined, derive, neutralBy, neutral, ratedBy, rated, resolve, product, combine, indexed}
 use Rattle.rules.specs.Bytes.{le2, le4, blockSum}
 use Rattle.rules.specs.Catalog.{Catalog, blank, same, idAt, exponentAt, dimsAt, kindFrom, catalogIn, find, link, rateAmong, isDifference, kindsOf, names, covers, rowAmong}
 use Rattle.rules.specs.Compile.{called, idRule, differenceRule, linear, dimensionlessRule, timeRule, rateRule, fresh, rowRule, compiles}
@@ -50,7 +50,7 @@ withRow = record {
 }
 
 row-derived : rowRule withRow 0 ≡ refused (DerivedOperationRule 1)
-unfolding rowRule called find first same blank link kindsOf below rateAmong resolved derive graded joined resolve neutral neutralBy rated ratedBy fits picked catalogIn kindFrom dimsAt exponentAt idAt tab le2 image D.product D.outcome D.equal G.product F.sum F.answer F.limited F.within F.lowest F.equal gcd euclid zipWith
+unfolding rowRule called find first same blank link kindsOf below rateAmong resolved derive graded gradeBy joined resolve neutral neutralBy rated ratedBy fits carries picked catalogIn kindFrom dimsAt exponentAt idAt tab le2 image D.product D.outcome D.equal G.product F.sum F.answer F.limited F.within F.lowest F.equal gcd euclid zipWith
 row-derived = refl
 
 -- "Tokens kind 6, kind 7, Mul over this catalog print `refused 44 2` and a newline, nothing else."
@@ -61,7 +61,7 @@ tokens =
     ++ (4 ∷ replicate 11 0)
 
 twins-at : formulaIn teaching noRows tokens ≡ refused (record { place = 2; refusal = UnresolvedTwin 6 Mul 7 (1 ∷ 5 ∷ []) })
-unfolding formulaIn formula goodLength tokensIn tokenAt tokenBy unusedZero token.exponentAt le2 le4 malformedAt walk shape terms kindTerm binaryTerm twoKinds combine product derive resolved graded joined neutral neutralBy rated ratedBy resolve fits picked teaching listed tab D.product D.outcome D.equal G.product F.sum F.answer F.limited F.within F.lowest F.equal gcd euclid zipWith
+unfolding formulaIn formula goodLength tokensIn tokenAt tokenBy unusedZero token.exponentAt le2 le4 malformedAt walk shape terms kindTerm indexed binaryTerm twoKinds combine product derive resolved graded gradeBy joined neutral neutralBy rated ratedBy resolve fits carries picked teaching listed tab D.product D.outcome D.equal G.product F.sum F.answer F.limited F.within F.lowest F.equal gcd euclid zipWith
 twins-at = refl
 
 checked-so : checked image tokens ≡ refused (record { place = 2; refusal = UnresolvedTwin 6 Mul 7 (1 ∷ 5 ∷ []) })
