@@ -12,6 +12,11 @@ unfoldable pub first : (ℕ → Bool) → ℕ → Option ℕ
 first test zero = none
 first test (suc n) = orElse (first test n) (cond (test n) (some n) none)
 
+-- the first of the n numbers from p on that passes the test
+unfoldable pub firstFrom : (ℕ → Bool) → ℕ → ℕ → Option ℕ
+firstFrom test p zero = none
+firstFrom test p (suc n) = orElse (firstFrom test p n) (cond (test (p + n)) (some (p + n)) none)
+
 -- each number below n passes the test
 unfoldable pub all : (ℕ → Bool) → ℕ → Bool
 all test zero = true

@@ -1,0 +1,6 @@
+-- What is shown on the way: searches, and the layout taken apart.
+mod Finds
+mod Ids
+mod Within
+mod Split
+mod Exponents

@@ -1,0 +1,33 @@
+-- What the code's enums show of the rules, and what its own functions compute on the way.
+use Prim.Native.Nat.{ℕ, _+_, _*_}
+use mathlib.Core.Bool.{Bool, _&&_, _||_}
+use mathlib.Core.List.{List}
+use mathlib.Core.Option.{Option, some, none}
+use lib.Dec.{ltb, leb, eqb}
+use Rattle.laws.specs.Options.{found}
+use Rattle.laws.specs.Ranges.{first}
+use Rattle.rules.specs.Bytes.{byte, le2}
+use Rattle.rules.specs.Layout.{filled}
+use Rattle.catalog.specs.declared.bytes.Found.{Found}
+use Rattle.catalog.specs.declared.bytes.Found.the-variants.{At, Nothing}
+
+-- a place that was found
+abbrev pub placed : Option ℕ → Found
+placed (some i) = At i
+placed none = Nothing
+
+-- what byte i of a block adds to its sum
+unfoldable pub weighed : List ℕ → ℕ → ℕ → ℕ
+weighed s block i = (i + 1) * byte s (block * 512 + i)
+
+-- the denominator at i is 0 or over 32,767
+unfoldable pub denominatorWrong : List ℕ → ℕ → Bool
+denominatorWrong s i = eqb (le2 s i) 0 || ltb 32767 (le2 s i)
+
+-- the first of n denominators of the kind at p that is wrong, and its place
+unfoldable pub denominatorAt : List ℕ → ℕ → ℕ → Option ℕ
+denominatorAt s p n = found (first (λ b. denominatorWrong s (p + 98 + 4 * b)) n) (λ b. some (p + 98 + 4 * b)) none
+
+-- the four bytes with which a record ends, at q: two fields of one byte, to a and to b, and two unnamed bytes
+unfoldable pub marksWrong : List ℕ → ℕ → ℕ → ℕ → ℕ → Bool
+marksWrong s q a b i = (eqb i q && ltb a (byte s i)) || (eqb i (q + 1) && ltb b (byte s i)) || (leb (q + 2) i && filled s i)
