@@ -17,7 +17,7 @@ use Rattle.catalog.specs.Shown.{denominatorWrong, denominatorAt}
 use Rattle.catalog.proofs.Within.{within-in}
 use Rattle.catalog.proofs.Split.{from-one}
 
-nowhere : (p n : ℕ) → firstFrom (λ i. false) p n ≡ none
+pub nowhere : (p n : ℕ) → firstFrom (λ i. false) p n ≡ none
 unfolding firstFrom
 nowhere p zero = refl
 nowhere p (suc n) = rw (firstFrom, nowhere p n)

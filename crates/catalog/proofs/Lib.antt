@@ -4,3 +4,5 @@ mod Ids
 mod Within
 mod Split
 mod Exponents
+mod Header
+mod Records

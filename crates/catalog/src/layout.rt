@@ -5,10 +5,10 @@ use crate::bytes::filled_before;
 use crate::bytes::first_filled;
 use crate::bytes::u16_at;
 ghost use mathlib.Core.Path.{_≡_};
-ghost use Prim.Native.Nat.{_+_, _*_, _-_, _<_, _≤_};
-ghost use Rattle.rules.specs.Layout.{idWrong, idsWrong, exponentWrong, kindWrong, rowWrong};
+ghost use Prim.Native.Nat.{_+_, _*_, _-_, _<_, _≤_, min};
+ghost use Rattle.rules.specs.Layout.{headerWrong, idWrong, idsWrong, exponentWrong, kindWrong, rowWrong};
 ghost use Rattle.laws.specs.Ranges.{firstFrom};
-ghost use Rattle.catalog.specs.Shown.{placed, denominatorWrong, denominatorAt, marksWrong};
+ghost use Rattle.catalog.specs.Shown.{placed, denominatorWrong, denominatorAt, marksWrong, countsWrong, headAt, recordsAt};
 
 // Whether byte i of the id at p is a wrong one: no zero, and no sign at the front or after a sign.
 fn id_byte_wrong(s: &[u8], p: usize, i: usize) -> bool
@@ -121,4 +121,101 @@ pub(crate) fn row_fault(s: &[u8], p: usize) -> Found
         return Found::At(i);
     }
     marks_fault(s, p + 96, 3, 1)
+}
+
+// The blocks that the counts give, and what is charged to byte 8.
+fn counts_wrong(s: &[u8]) -> bool
+    ensures { λ r. ⌜ r ≡ countsWrong (now (s .entry)) ⌝ }
+{
+    let kinds = u16_at(s, 8) as usize;
+    let rows = u16_at(s, 10) as usize;
+    (240 < kinds) | (s.len() != 512 * (1 + (kinds + 2) / 3 + (rows + 4) / 5))
+}
+
+fn header_counts_fault(s: &[u8]) -> Found
+    ensures { λ r. ⌜ r ≡ placed (firstFrom (headerWrong (now (s .entry))) 0 12) ⌝ }
+{
+    if let Found::At(i) = first_filled(s, 2, 2) {
+        return Found::At(i);
+    }
+    if counts_wrong(s) {
+        return Found::At(8);
+    }
+    if 200 < u16_at(s, 10) {
+        return Found::At(10);
+    }
+    Found::Nothing
+}
+
+fn header_fault(s: &[u8]) -> Found
+    ensures { λ r. ⌜ r ≡ placed (firstFrom (headerWrong (now (s .entry))) 0 512) ⌝ }
+{
+    if let Found::At(i) = header_counts_fault(s) {
+        return Found::At(i);
+    }
+    if let Found::At(i) = id_fault(s, 12) {
+        return Found::At(i);
+    }
+    if let Found::At(i) = id_fault(s, 44) {
+        return Found::At(i);
+    }
+    first_filled(s, 76, 432)
+}
+
+// The records that a block holds, of n in all, m to a block, where `from` are in the blocks before.
+fn held(n: usize, from: usize, m: usize) -> usize
+    ensures { λ r. ⌜ r ≡ min m (n - from) ⌝ }
+    ensures { λ r. ⌜ r ≤ m ⌝ }
+{
+    if n < from {
+        return 0;
+    }
+    if n - from < m {
+        return n - from;
+    }
+    m
+}
+
+// The head of a block at p: its type and the number of its records.
+fn head_fault(s: &[u8], p: usize, kind: u8, records: usize) -> Found
+    requires { ⌜ p < 300000 ⌝ }
+    ensures { λ r. ⌜ r ≡ placed (headAt (now (s .entry)) p kind records) ⌝ }
+{
+    if byte_at(s, p + 2) != kind {
+        return Found::At(p + 2);
+    }
+    if byte_at(s, p + 3) as usize != records {
+        return Found::At(p + 3);
+    }
+    Found::Nothing
+}
+
+// The first fault of so many kind records from p on.
+fn kinds_fault(s: &[u8], p: usize, records: usize) -> Found
+    requires { ⌜ (p < 200000) × (records ≤ 3) ⌝ }
+    ensures { λ r. ⌜ r ≡ placed (recordsAt (kindWrong (now (s .entry))) 148 p records) ⌝ }
+{
+    let mut j: usize = 0;
+    while j < records {
+        if let Found::At(i) = kind_fault(s, p + 148 * j) {
+            return Found::At(i);
+        }
+        j += 1;
+    }
+    Found::Nothing
+}
+
+// The first fault of so many row records from p on.
+fn rows_fault(s: &[u8], p: usize, records: usize) -> Found
+    requires { ⌜ (p < 200000) × (records ≤ 5) ⌝ }
+    ensures { λ r. ⌜ r ≡ placed (recordsAt (rowWrong (now (s .entry))) 100 p records) ⌝ }
+{
+    let mut j: usize = 0;
+    while j < records {
+        if let Found::At(i) = row_fault(s, p + 100 * j) {
+            return Found::At(i);
+        }
+        j += 1;
+    }
+    Found::Nothing
 }
