@@ -16,15 +16,15 @@ use Rattle.catalog.proofs.Within.{within-before, within-past, within-in
 use Rattle.catalog.proofs.Split.{from-one}
 use Rattle.catalog.proofs.Exponents.{nowhere}
 
-or-none : (o : Option ℕ) → orElse o none ≡ o
+pub or-none : (o : Option ℕ) → orElse o none ≡ o
 or-none (some i) = refl
 or-none none = refl
 
 -- a part with a test of its own, and one in which nothing is wrong
-part : (t a : ℕ → Bool) (p n m : ℕ) → ((i : ℕ) → i < n → t (p + i) ≡ a (p + i)) → firstFrom t p (n + m) ≡ orElse (firstFrom a p n) (firstFrom t (p + n) m)
+pub part : (t a : ℕ → Bool) (p n m : ℕ) → ((i : ℕ) → i < n → t (p + i) ≡ a (p + i)) → firstFrom t p (n + m) ≡ orElse (firstFrom a p n) (firstFrom t (p + n) m)
 part t a p n m h = from-split t p n m ∙ ap (λ (o : Option ℕ). orElse o (firstFrom t (p + n) m)) (from-same t p a n h)
 
-skip : (t : ℕ → Bool) (p n m : ℕ) → ((i : ℕ) → i < n → t (p + i) ≡ false) → firstFrom t p (n + m) ≡ firstFrom t (p + n) m
+pub skip : (t : ℕ → Bool) (p n m : ℕ) → ((i : ℕ) → i < n → t (p + i) ≡ false) → firstFrom t p (n + m) ≡ firstFrom t (p + n) m
 skip t p n m h = part t (λ i. false) p n m h ∙ ap (λ (o : Option ℕ). orElse o (firstFrom t (p + n) m)) (nowhere p n)
 
 module _ (s : List ℕ) where

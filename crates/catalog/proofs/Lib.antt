@@ -6,3 +6,4 @@ mod Split
 mod Exponents
 mod Header
 mod Records
+mod Block
