@@ -7,3 +7,4 @@ mod Exponents
 mod Header
 mod Records
 mod Block
+mod Whole

@@ -6,7 +6,7 @@ use crate::bytes::first_filled;
 use crate::bytes::u16_at;
 ghost use mathlib.Core.Path.{_≡_};
 ghost use Prim.Native.Nat.{_+_, _*_, _-_, _<_, _≤_, min};
-ghost use Rattle.rules.specs.Layout.{headerWrong, idWrong, idsWrong, exponentWrong, kindWrong, rowWrong};
+ghost use Rattle.rules.specs.Layout.{headerWrong, idWrong, idsWrong, exponentWrong, kindWrong, rowWrong, blockWrong, byteWrong};
 ghost use Rattle.laws.specs.Ranges.{firstFrom};
 ghost use Rattle.catalog.specs.Shown.{placed, denominatorWrong, denominatorAt, marksWrong, countsWrong, headAt, recordsAt};
 
@@ -216,6 +216,70 @@ fn rows_fault(s: &[u8], p: usize, records: usize) -> Found
             return Found::At(i);
         }
         j += 1;
+    }
+    Found::Nothing
+}
+
+// Block b of kinds, n in all, that begins with kind `from`.
+fn kind_block_fault(s: &[u8], b: usize, n: usize, from: usize) -> Found
+    requires { ⌜ b < 200 ⌝ }
+    ensures { λ r. ⌜ r ≡ placed (firstFrom (blockWrong kindWrong 1 148 3 n from (now (s .entry))) (512 * b) 512) ⌝ }
+{
+    let records = held(n, from, 3);
+    let p = 512 * b;
+    if let Found::At(i) = head_fault(s, p, 1, records) {
+        return Found::At(i);
+    }
+    if let Found::At(i) = kinds_fault(s, p + 4, records) {
+        return Found::At(i);
+    }
+    first_filled(s, p + 4 + 148 * records, 504 - 148 * records)
+}
+
+// Block b of rows, n in all, that begins with row `from`.
+fn row_block_fault(s: &[u8], b: usize, n: usize, from: usize) -> Found
+    requires { ⌜ b < 200 ⌝ }
+    ensures { λ r. ⌜ r ≡ placed (firstFrom (blockWrong rowWrong 2 100 5 n from (now (s .entry))) (512 * b) 512) ⌝ }
+{
+    let records = held(n, from, 5);
+    let p = 512 * b;
+    if let Found::At(i) = head_fault(s, p, 2, records) {
+        return Found::At(i);
+    }
+    if let Found::At(i) = rows_fault(s, p + 4, records) {
+        return Found::At(i);
+    }
+    first_filled(s, p + 4 + 100 * records, 504 - 100 * records)
+}
+
+// Block b: the header, a block of kinds or a block of rows.
+fn block_fault(s: &[u8], b: usize) -> Found
+    requires { ⌜ b < 200 ⌝ }
+    ensures { λ r. ⌜ r ≡ placed (firstFrom (byteWrong (now (s .entry))) (512 * b) 512) ⌝ }
+{
+    if b == 0 {
+        return header_fault(s);
+    }
+    let kinds = u16_at(s, 8) as usize;
+    let rows = u16_at(s, 10) as usize;
+    let k = (kinds + 2) / 3;
+    if b <= k {
+        return kind_block_fault(s, b, kinds, (b - 1) * 3);
+    }
+    row_block_fault(s, b, rows, (b - 1 - k) * 5)
+}
+
+// The lowest wrong byte of the first n blocks.
+pub(crate) fn wrong_byte(s: &[u8], n: usize) -> Found
+    requires { ⌜ n ≤ 200 ⌝ }
+    ensures { λ r. ⌜ r ≡ placed (firstFrom (byteWrong (now (s .entry))) 0 (512 * n)) ⌝ }
+{
+    let mut b: usize = 0;
+    while b < n {
+        if let Found::At(i) = block_fault(s, b) {
+            return Found::At(i);
+        }
+        b += 1;
     }
     Found::Nothing
 }
