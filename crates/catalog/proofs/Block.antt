@@ -1,22 +1,20 @@
 -- A block of records taken apart: its head, the records that it holds, the unnamed bytes past them, its sum. Stated over what is used of the
 -- records' size, so that kinds and rows are one case. Assumes nothing.
 use Prim.Native.Nat.{ℕ, zero, suc, _+_, _*_, _-_, _/_, _%_, _<_, _≤_, min}
-use mathlib.Core.Path.{_≡_, refl, sym, _∙_, ap, ap₂}
-use mathlib.Core.Bool.{Bool, true, false, cond, not, _&&_, _||_, or-false, and-false}
+use mathlib.Core.Path.{_≡_, _∙_, ap, ap₂}
+use mathlib.Core.Bool.{Bool, false, not, _&&_, _||_, or-false, and-false}
 use mathlib.Core.List.{List}
-use mathlib.Core.Option.{Option, some, none}
-use native.Mathlib.Nat.{add-zero}
 use native.Mathlib.Decide.{decLe}
 use native.Mathlib.Omega.{arith}
-use borrow.Author.Tests.{lt-ltb, le-ltb, ne-eqb}
-use lib.Dec.{ltb, eqb}
+use borrow.Author.Tests.{lt-ltb, le-ltb}
+use lib.Dec.{eqb}
 use Rattle.laws.specs.Options.{orElse}
 use Rattle.laws.specs.Ranges.{firstFrom}
 use Rattle.laws.proofs.FirstFrom.{from-same, from-split}
 use Rattle.rules.specs.Bytes.{byte}
 use Rattle.rules.specs.Layout.{filled, headWrong, spareWrong, blockWrong}
 use Rattle.catalog.specs.Shown.{headAt, recordsAt}
-use Rattle.catalog.proofs.Header.{part, skip, or-none}
+use Rattle.catalog.proofs.Header.{part, or-none}
 use Rattle.catalog.proofs.Exponents.{nowhere}
 
 -- records of so many bytes, at most m to a block

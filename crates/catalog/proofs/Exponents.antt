@@ -1,21 +1,19 @@
 -- The exponents of a kind by its flag: all bytes zero, or twelve denominators in their range, or unchecked. Assumes nothing.
 use Prim.Native.Nat.{ℕ, zero, suc, _+_, _*_, _-_, _%_, _<_, _≤_}
-use mathlib.Core.Path.{_≡_, refl, sym, _∙_, ap, ap₂}
-use mathlib.Core.Bool.{Bool, true, false, cond, _&&_, _||_, or-false, and-false}
+use mathlib.Core.Path.{_≡_, refl, _∙_}
+use mathlib.Core.Bool.{Bool, true, false, cond, _&&_, or-false, and-false}
 use mathlib.Core.List.{List}
 use mathlib.Core.Option.{Option, some, none}
-use native.Mathlib.Nat.{add-zero}
 use native.Mathlib.Omega.{arith}
-use borrow.Author.Tests.{eq-eqb, ne-eqb}
+use borrow.Author.Tests.{ne-eqb}
 use lib.Dec.{eqb}
 use Rattle.laws.specs.Options.{orElse, found}
 use Rattle.laws.specs.Ranges.{first, firstFrom}
 use Rattle.laws.proofs.FirstFrom.{from-same, from-split}
-use Rattle.rules.specs.Bytes.{byte, le2}
+use Rattle.rules.specs.Bytes.{byte}
 use Rattle.rules.specs.Layout.{filled, exponentWrong}
 use Rattle.catalog.specs.Shown.{denominatorWrong, denominatorAt}
 use Rattle.catalog.proofs.Within.{within-in}
-use Rattle.catalog.proofs.Split.{from-one}
 
 pub nowhere : (p n : ℕ) → firstFrom (λ i. false) p n ≡ none
 unfolding firstFrom

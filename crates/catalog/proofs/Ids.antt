@@ -1,11 +1,11 @@
 -- A byte of an id: its place among the id's 32 bytes is all that counts. Assumes nothing.
 use Prim.Native.Nat.{ℕ, zero, suc, _+_, _-_, _<_}
 use mathlib.Core.Path.{_≡_, sym, _∙_}
-use mathlib.Core.Bool.{Bool, not, _&&_, _||_}
+use mathlib.Core.Bool.{not, _&&_, _||_}
 use mathlib.Core.List.{List}
 use native.Mathlib.Omega.{arith}
 use borrow.Author.Tests.{le-leb, lt-ltb, le-ltb}
-use lib.Dec.{ltb, leb}
+use lib.Dec.{ltb}
 use Rattle.rules.specs.Bytes.{byte}
 use Rattle.rules.specs.Layout.{filled, idWrong}
 

@@ -8,3 +8,4 @@ mod Header
 mod Records
 mod Block
 mod Whole
+mod Refused

@@ -1,17 +1,17 @@
 -- The layout taken apart: the first wrong byte of a record is that of its first part that has one. Assumes nothing.
-use Prim.Native.Nat.{ℕ, _+_, _<_, _≤_}
-use mathlib.Core.Path.{_≡_, refl, sym, _∙_, ap, ap₂}
-use mathlib.Core.Bool.{Bool, true, false, cond, or-false}
+use Prim.Native.Nat.{ℕ, _+_, _<_}
+use mathlib.Core.Path.{_≡_, refl, _∙_, ap, ap₂}
+use mathlib.Core.Bool.{Bool, cond, or-false}
 use mathlib.Core.List.{List}
 use mathlib.Core.Option.{Option, some, none}
 use native.Mathlib.Nat.{add-zero}
 use borrow.Author.Tests.{eq-eqb, ne-eqb, le-leb, lt-leb}
-use lib.Dec.{ltb, leb, eqb}
+use lib.Dec.{ltb}
 use native.Mathlib.Omega.{arith}
 use Rattle.laws.specs.Options.{orElse}
 use Rattle.laws.specs.Ranges.{firstFrom}
 use Rattle.laws.proofs.FirstFrom.{from-same, from-split, or-assoc}
-use Rattle.rules.specs.Bytes.{byte, le2}
+use Rattle.rules.specs.Bytes.{byte}
 use Rattle.rules.specs.Layout.{filled, idWrong, idsWrong, exponentWrong, kindWrong, rowWrong}
 use Rattle.catalog.specs.Shown.{marksWrong}
 use Rattle.catalog.proofs.Within.{id-before, id-past, ids-past, exponent-before, exponent-past}

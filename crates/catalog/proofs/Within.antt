@@ -1,7 +1,7 @@
 -- Fields lie where they lie: a test of the n bytes from q on fails before and past them. Assumes nothing.
 use Prim.Native.Nat.{ℕ, _+_, _<_, _≤_}
 use mathlib.Core.Path.{_≡_}
-use mathlib.Core.Bool.{Bool, true, false, _&&_, and-false}
+use mathlib.Core.Bool.{true, false, and-false}
 use mathlib.Core.List.{List}
 use native.Mathlib.Omega.{arith}
 use borrow.Author.Tests.{lt-leb, le-leb, le-ltb, lt-ltb}

@@ -7,8 +7,13 @@ use lib.Dec.{ltb, leb, eqb}
 use lib.ListN.{length}
 use Rattle.laws.specs.Options.{found, orElse}
 use Rattle.laws.specs.Ranges.{first, firstFrom}
+use Rattle.laws.specs.Out.{given, refused}
+use Rattle.rules.specs.Refusal.{Placed, ImageLength, WrongBlock, Schema, WrongByte}
 use Rattle.rules.specs.Bytes.{byte, le2}
 use Rattle.rules.specs.Layout.{filled, kindCount, blocksBy}
+use Rattle.catalog.specs.declared.image.Checked.{Checked}
+use Rattle.catalog.specs.declared.image.Checked.the-variants as verdict
+use Rattle.catalog.specs.declared.image.Checked.the-variants.{Fine}
 use Rattle.catalog.specs.declared.bytes.Found.{Found}
 use Rattle.catalog.specs.declared.bytes.Found.the-variants.{At, Nothing}
 
@@ -45,3 +50,11 @@ headAt s p type held = orElse (cond (not (eqb (byte s (p + 2)) type)) (some (p +
 unfoldable pub recordsAt : (ℕ → ℕ → Bool) → ℕ → ℕ → ℕ → Option ℕ
 recordsAt wrong bytes p zero = none
 recordsAt wrong bytes p (suc n) = orElse (recordsAt wrong bytes p n) (firstFrom (wrong (p + bytes * n)) (p + bytes * n) bytes)
+
+-- the rules' refusal that a verdict of code stands for, with its place
+abbrev pub refusalOf : Checked → Placed (Unit {0})
+refusalOf Fine = given tt
+refusalOf (verdict.ImageLength n) = refused (record { place = 0; refusal = ImageLength n })
+refusalOf (verdict.WrongBlock b) = refused (record { place = b; refusal = WrongBlock b })
+refusalOf (verdict.Schema v) = refused (record { place = 0; refusal = Schema v })
+refusalOf (verdict.WrongByte i) = refused (record { place = i; refusal = WrongByte i })

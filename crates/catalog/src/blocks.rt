@@ -42,7 +42,7 @@ fn sum_wrong(image: &[u8], block: usize) -> bool
 }
 
 // The lowest wrong block of n.
-fn wrong_among(image: &[u8], n: usize) -> Found
+pub(crate) fn wrong_among(image: &[u8], n: usize) -> Found
     requires { ⌜ n ≤ 1000 ⌝ }
     ensures { λ r. ⌜ r ≡ placed (first (sumWrong (now (image .entry))) n) ⌝ }
 {

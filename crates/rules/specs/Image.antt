@@ -15,8 +15,11 @@ use Rattle.rules.specs.Compile.{Compiled, compile}
 use Rattle.rules.specs.Table.{tableWords}
 
 -- 1: "1 to 121 blocks of 512 bytes"
+unfoldable pub lengthWrong : List ℕ → Bool
+lengthWrong s = eqb (length s) 0 || not (eqb (length s % 512) 0) || ltb (121 * 512) (length s)
+
 unfoldable pub lengthCheck : List ℕ → Placed (Unit {0})
-lengthCheck s = at 0 (refuseIf (eqb (length s) 0 || not (eqb (length s % 512) 0) || ltb (121 * 512) (length s)) (ImageLength (length s)))
+lengthCheck s = at 0 (refuseIf (lengthWrong s) (ImageLength (length s)))
 
 -- 5: "table under 9,296 32-bit words"
 unfoldable pub roomCheck : ℕ → Placed (Unit {0})
@@ -47,6 +50,12 @@ readable s = do
   blocksCheck s
   schemaCheck s
   layoutCheck s
+
+-- 1, 2, 3, 4: what an image is refused for whatever table is lent
+unfoldable pub imageCheck : List ℕ → Placed (Unit {0})
+imageCheck s = do
+  lengthCheck s
+  readable s
 
 -- `room` is the length of the table lent
 unfoldable pub compileImage : List ℕ → ℕ → Placed Compiled

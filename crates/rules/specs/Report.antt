@@ -10,7 +10,7 @@ use Rattle.laws.specs.Ranges.{first}
 use Rattle.rules.specs.Refusal.{Placed, told}
 use Rattle.rules.specs.Layout.{kindCount, blocksBy, filled}
 use Rattle.rules.specs.Catalog.{kindAt}
-use Rattle.rules.specs.Image.{lengthCheck, readable, compileImage}
+use Rattle.rules.specs.Image.{imageCheck, compileImage}
 use Rattle.rules.specs.Formula.{Term, Number, Kind}
 use Rattle.rules.specs.Call.{formulaIn}
 
@@ -20,7 +20,7 @@ idPart s p = take (found (first (λ i. not (filled s (p + i))) 32) (λ i. i) 32)
 
 -- "A kind's part is empty where the image meets 1 to 4 or the index is past the end."
 unfoldable pub kindPart : List ℕ → ℕ → List ℕ
-kindPart image k = elim (lengthCheck image >> readable image) [ given u ↦ cond (ltb k (kindCount image)) (idPart image (kindAt k)) [] | refused x ↦ [] ]
+kindPart image k = elim (imageCheck image) [ given u ↦ cond (ltb k (kindCount image)) (idPart image (kindAt k)) [] | refused x ↦ [] ]
 
 -- "The report prints the kind's id or the caller's own word for a number .. padding left off; the word comes back whole."
 unfoldable pub report : List ℕ → List ℕ → Term → List ℕ

@@ -1,9 +1,9 @@
 -- The teaching catalog's image compiles to the kinds that 01 lists, and no rows. Assumes nothing.
 use Prim.Native.Nat.{ℕ, zero, suc, _+_, _<_, _≤_}
 use mathlib.Core.Path.{_≡_, refl, sym, _∙_, ap, fun-ext}
-use mathlib.Core.Bool.{Bool, true, false, cond}
+use mathlib.Core.Bool.{Bool, true, false}
 use mathlib.Core.List.{List, [], _∷_, zipWith}
-use mathlib.Core.Option.{Option, some, none}
+use mathlib.Core.Option.{some, none}
 use native.Mathlib.Nat.{not-suc-le-zero, le-of-suc-le-suc}
 use native.Mathlib.Omega.{arith}
 use borrow.Author.Tests.{ltb-true, ltb-false}
@@ -14,14 +14,14 @@ use Rattle.laws.specs.Ranges.{first, sum, tab, below}
 use Rattle.dimension.specs.Gcd.{gcd, euclid}
 use Rattle.dimension.specs.Fraction as F
 use Rattle.dimension.specs.Dimension as D
-use Rattle.rules.specs.Kinds.{Kinds, Rows, carries}
+use Rattle.rules.specs.Kinds.{carries}
 use Rattle.rules.specs.Arithmetic.{resolved}
 use Rattle.rules.specs.Bytes.{le2, le4, blockSum}
 use Rattle.rules.specs.Layout.{filled, idWrong, headerWrong, idsWrong, exponentWrong, kindWrong, rowWrong, headWrong, spareWrong, blockWrong, byteWrong}
 use Rattle.laws.proofs.Below.{below-past}
-use Rattle.rules.specs.Catalog.{noKind, blank, same, idAt, exponentAt, dimsAt, kindFrom, opOf, rowFrom, catalogIn, find, link, differenceOf, targetOf, rateAmong, isDifference, kindsOf, rowAmong, rowsOf}
+use Rattle.rules.specs.Catalog.{noKind, blank, same, idAt, exponentAt, dimsAt, kindFrom, catalogIn, find, link, differenceOf, targetOf, rateAmong, isDifference, kindsOf, rowAmong, rowsOf}
 use Rattle.rules.specs.Compile.{Compiled, called, idRule, differenceRule, linear, dimensionlessRule, timeRule, rateRule, compiles, compile}
-use Rattle.rules.specs.Image.{lengthCheck, roomCheck, sumWrong, blocksCheck, schemaCheck, layoutCheck, readable, compileImage}
+use Rattle.rules.specs.Image.{lengthWrong, lengthCheck, roomCheck, sumWrong, blocksCheck, schemaCheck, layoutCheck, readable, compileImage}
 use Rattle.teaching.specs.Listed.{Listed, unlisted, listed, teaching, noRows}
 use Rattle.teaching.specs.Image.{image}
 
@@ -113,5 +113,5 @@ abbrev pub compiled : Compiled
 compiled = record { kinds = teaching; rows = noRows }
 
 pub teaches : compileImage image 9296 ≡ given compiled
-unfolding compileImage compile lengthCheck roomCheck image
+unfolding compileImage compile lengthCheck lengthWrong roomCheck image
 teaches = rw (image-readable, rules-kept) (ap (λ (C : Compiled). given C) (λ i. record { kinds = kinds-are i; rows = rows-are i }))

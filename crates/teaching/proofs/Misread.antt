@@ -1,12 +1,12 @@
 -- 01, "Errors to catch": each wrong reading as a definition of its own, and an input on which it answers otherwise than the rule. Assumes nothing.
 use Prim.Native.Nat.{ℕ}
 use mathlib.Core.Path.{_≡_, refl}
-use mathlib.Core.Bool.{Bool, true, false, cond, not, _&&_}
-use mathlib.Core.List.{List, [], _∷_, zipWith}
-use mathlib.Core.Option.{Option, some, none}
+use mathlib.Core.Bool.{Bool, true, false, cond, _&&_}
+use mathlib.Core.List.{[], _∷_, zipWith}
+use mathlib.Core.Option.{some, none}
 use lib.Dec.{eqb}
 use lib.IntN.{pos}
-use Rattle.laws.specs.Options.{found, orElse}
+use Rattle.laws.specs.Options.{found}
 use Rattle.laws.specs.Out.{given, refused, _>>=_, _>>_, refuseIf, known}
 use Rattle.laws.specs.Ranges.{first, picked}
 use Rattle.dimension.specs.Gcd.{gcd, euclid}
@@ -19,7 +19,7 @@ use Rattle.dimension.specs.declared.grade.ProductOp.the-variants.{Mul, Div}
 use Rattle.rules.specs.Kinds.{Kinds, Rows, Graded, point, fits, carries}
 use Rattle.rules.specs.Refusal.{Answer, UnresolvedDimensions, UnresolvedTwin, NoProductKind, CommutativeQuotient, Unknown, UnsupportedOperation, absent}
 use Rattle.rules.specs.Arithmetic.{resolved, graded, gradeBy, joined, derive, neutralBy, neutral, ratedBy, rated, fitting, first-of, settle, resolve, product, raised, power, scaled}
-use Rattle.rules.specs.Catalog.{Catalog, Row, noKind, sameOp, find, same, blank, link, kindsOf}
+use Rattle.rules.specs.Catalog.{Catalog, noKind, sameOp, find}
 use Rattle.rules.specs.Compile.{Checked, called, rowRule}
 use Rattle.teaching.specs.Listed.{unlisted, kindsBy, bases, listed, teaching, noRows}
 

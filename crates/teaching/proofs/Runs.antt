@@ -1,11 +1,10 @@
 -- Some of the cases that 01 marks to be run, shown here because they compute at once. Assumes nothing.
 use Prim.Native.Nat.{ℕ}
-use mathlib.Core.Path.{_≡_, refl, _∙_, ap}
-use mathlib.Core.Bool.{true, false}
+use mathlib.Core.Path.{_≡_, refl, ap}
+use mathlib.Core.Bool.{false}
 use mathlib.Core.List.{List, [], _∷_, _++_, zipWith}
-use mathlib.Core.Option.{Option, some, none}
-use lib.ListN.{length, replicate}
-use Rattle.laws.specs.Out.{given, refused, each}
+use lib.ListN.{replicate}
+use Rattle.laws.specs.Out.{refused}
 use Rattle.laws.specs.Ranges.{first, picked, sum, tab, below}
 use Rattle.dimension.specs.Gcd.{gcd, euclid}
 use Rattle.dimension.specs.Fraction as F
@@ -13,16 +12,16 @@ use Rattle.dimension.specs.Dimension as D
 use Rattle.dimension.specs.Grade as G
 use Rattle.dimension.specs.declared.grade.ProductOp.the-variants.{Mul}
 use Rattle.rules.specs.Kinds.{fits, carries}
-use Rattle.rules.specs.Refusal.{Fault, Placed, DerivedOperationRule, UnresolvedTwin, told}
-use Rattle.rules.specs.Arithmetic.{multiplied, resolved, graded, gradeBy, joined, derive, neutralBy, neutral, ratedBy, rated, resolve, product, combine, indexed}
+use Rattle.rules.specs.Refusal.{Placed, DerivedOperationRule, UnresolvedTwin, told}
+use Rattle.rules.specs.Arithmetic.{resolved, graded, gradeBy, joined, derive, neutralBy, neutral, ratedBy, rated, resolve, product, combine, indexed}
 use Rattle.rules.specs.Bytes.{le2, le4, blockSum}
-use Rattle.rules.specs.Catalog.{Catalog, blank, same, idAt, exponentAt, dimsAt, kindFrom, catalogIn, find, link, rateAmong, isDifference, kindsOf, names, covers, rowAmong}
-use Rattle.rules.specs.Compile.{called, idRule, differenceRule, linear, dimensionlessRule, timeRule, rateRule, fresh, rowRule, compiles}
+use Rattle.rules.specs.Catalog.{Catalog, blank, same, idAt, exponentAt, dimsAt, kindFrom, catalogIn, find, link, rateAmong, kindsOf}
+use Rattle.rules.specs.Compile.{called, rowRule}
 use Rattle.rules.specs.Formula.{Term, walk, shape, malformedAt, twoKinds, binaryTerm, kindTerm, terms, formula}
 use Rattle.rules.specs.Token as token
 use Rattle.rules.specs.Token.{tokenBy, unusedZero, tokenAt, tokensIn, goodLength}
 use Rattle.rules.specs.Call.{formulaIn}
-use Rattle.rules.specs.Report.{imageLength, imagePart, formulaPart, digitsBy, digits, line, checked, kindcheck}
+use Rattle.rules.specs.Report.{imageLength, digitsBy, digits, line, checked, kindcheck}
 use Rattle.teaching.specs.Listed.{listed, teaching, noRows}
 use Rattle.teaching.specs.Image.{image}
 use Rattle.teaching.proofs.Compiles.{teaches}

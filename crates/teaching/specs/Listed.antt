@@ -8,7 +8,6 @@ use lib.ListN.{length, getD, replicate}
 use Rattle.dimension.specs.Fraction as F
 use Rattle.dimension.specs.Dimension as D
 use Rattle.dimension.specs.declared.dimensions.Dimensions.{Dimensions}
-use Rattle.dimension.specs.declared.grade.ProductOp.{ProductOp}
 use Rattle.rules.specs.Kinds.{Kinds, Rows}
 
 -- kinds as a list: what each is, and nothing past the end

@@ -1,11 +1,8 @@
 -- `catalog::layout::block_fault` meets its contract: the header, a block of kinds, or one of rows.
 -- Assumes nothing.
 use borrow.Author.Needs.{needs}
-use mathlib.Core.Path.{_≡_, sym, _∙_, ap}
-use Prim.Native.Nat.{ℕ, _*_}
+use mathlib.Core.Path.{_∙_, ap}
 use native.Mathlib.Omega.{arith}
-use Rattle.laws.specs.Ranges.{firstFrom}
-use Rattle.rules.specs.Layout.{byteWrong}
 use Rattle.catalog.specs.Shown.{placed}
 use Rattle.catalog.proofs.Whole.{header-block, kind-block, row-block}
 use Rattle.catalog.proofs.layout.block_fault.Statement.{statement}

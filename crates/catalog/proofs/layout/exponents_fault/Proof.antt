@@ -1,7 +1,7 @@
 -- `catalog::layout::exponents_fault` meets its contract: by the flag.
 -- Assumes nothing.
 use borrow.Author.Needs.{needs}
-use mathlib.Core.Path.{_≡_, sym, _∙_, ap}
+use mathlib.Core.Path.{sym, _∙_, ap}
 use Rattle.catalog.specs.Shown.{placed}
 use Rattle.catalog.proofs.Exponents.{exponents-unresolved, exponents-given, exponents-unchecked}
 use Rattle.catalog.proofs.layout.exponents_fault.Statement.{statement}

@@ -1,8 +1,7 @@
 -- `catalog::layout::head_fault` meets its contract: type, then number.
 -- Assumes nothing.
 use borrow.Author.Needs.{needs}
-use mathlib.Core.Bool.{true, false}
-use borrow.Author.Tests.{eq-eqb, ne-eqb, not-true, not-false}
+use borrow.Author.Tests.{eq-eqb, ne-eqb}
 use Rattle.catalog.specs.Shown.{headAt}
 use Rattle.catalog.proofs.layout.head_fault.Statement.{statement}
 use Rattle.catalog.proofs.layout.head_fault.Tie as tie
