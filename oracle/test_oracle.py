@@ -15,6 +15,7 @@ sys.path.insert(0, ROOT)
 
 from oracle import catalogs, damage, generate, stored  # noqa: E402
 from oracle.ask import Answer, CompiledKind, CompiledRow, Oracle, parsed  # noqa: E402
+from oracle.holding import common, expected  # noqa: E402
 from tools.catalog import read_catalog  # noqa: E402
 from tools.errors import BadInput  # noqa: E402
 from tools.formula import MOST_TOKENS, formula_lines, token, tokens  # noqa: E402
@@ -241,6 +242,61 @@ class WithTheRust(unittest.TestCase):
             answer = self.oracle.formula(tokens(formula, catalog, line))
             wanted = "refused" if "# refused" in lines[line - 1] else "kind"
             self.assertEqual(answer.what, wanted, formula)
+
+
+class Expected(unittest.TestCase):
+    """What oracle/hold wants where the Rust has no word."""
+
+    def compilations(self):
+        return [(image, pairs[0][1])
+                for image, pairs in common.sections("compile.bin", stored.COMPILE)]
+
+    def test_what_compiles_is_told_as_the_rust_does(self):
+        found = [(image, answer) for image, answer in self.compilations()
+                 if answer.what == "compiled"]
+        self.assertGreater(len(found), 200)
+        for image, answer in found:
+            self.assertEqual(expected.compiled(read_image(image)), answer)
+
+    def test_stored_images_and_formulas_are_well_formed(self):
+        for image, _ in self.compilations():
+            self.assertIsNone(expected.image_refusal(image))
+        for _, pairs in common.sections("formulas.bin", stored.FORMULAS):
+            for formula, _ in pairs:
+                self.assertIsNone(expected.malformed(formula))
+
+    def test_faults_of_an_image(self):
+        image = teaching_image()
+        for change, wanted in (
+                (image[:-1], (1, 0)), (image + bytes(512), (2, 4)), (changed(image, 4, 5), (3, 0)),
+                (changed(image, 8, 241), (4, 8)), (changed(image, 10, 201), (4, 8)),
+                (changed(image, 13, 0), (4, 14)), (changed(image, 512 + 4 + 98, 0), (4, 614)),
+                (changed(image, 512 + 4 + 144, 2), (4, 660)), (changed(image, 3, 1), (4, 3))):
+            answer = expected.image_refusal(change)
+            self.assertEqual((answer.number, answer.place), wanted)
+        self.assertEqual(expected.image_refusal(image, 9295).values, [9295])
+
+    def test_faults_of_a_formula(self):
+        one, add = token(0), token(2)
+        for formula, place in ((b"", 0), (one + b"\0", 0), (add, 0), (one + one, 2),
+                               (one * 33 + add * 32, 32), (one + token(8, 0, -2**31, 1), 1),
+                               (one + token(12), 1), (one + token(9, 1), 1), (one * 129, 0)):
+            self.assertEqual(expected.malformed_at(formula), place)
+        for formula in (one, one * 32 + add * 31, one + token(8, 0, -2**31, 2)):
+            self.assertIsNone(expected.malformed_at(formula))
+
+    def test_words_of_a_table(self):
+        words = common.words_of(read_image(teaching_image()))
+        self.assertEqual((len(words), words[:4]), (9296, [9, 0, 0, 3]))
+        self.assertEqual(words[16 + 32 * 2:16 + 32 * 2 + 4], [3, 1, 2**32 - 1, 1])
+        self.assertEqual(words[16 + 32 * 3 + 24:16 + 32 * 3 + 30], [1, 0, 1, 4, 65535, 65535])
+        self.assertTrue(expected.is_table(words))
+        for place, word in ((0, 241), (2, 9), (16, 32768), (17, 0), (40, 2), (43, 0), (1, 401)):
+            self.assertFalse(expected.is_table(words[:place] + [word] + words[place + 1:]))
+
+
+def changed(image, place, byte):
+    return damage.resealed(image[:place] + bytes([byte]) + image[place + 1:])
 
 
 KINDCHECK = """

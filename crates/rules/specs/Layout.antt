@@ -1,5 +1,6 @@
--- 01, 'The entry: a catalog image': which byte a fault is charged to. `byteWrong s i` says that byte i is the first of a wrong field, an id's first
--- wrong byte, or an unnamed byte that is not zero. The block's place (bytes 0 and 1) and sum (508 to 511) are refusal 2's, the schema 3's.
+-- 01, 'The entry: a catalog image': which byte a fault is charged to. `byteWrong s i` says that byte i is the first of a wrong field, a byte that
+-- no id can have there, or an unnamed one that is not zero; 4 is charged to the lowest. The block's place (bytes 0 and 1) and sum (508 to 511) are
+-- refusal 2's, the schema 3's.
 use Prim.Native.Nat.{ℕ, _+_, _*_, _-_, _/_, _%_, min}
 use mathlib.Core.List.{List}
 use mathlib.Core.Bool.{Bool, not, cond, _&&_, _||_}
@@ -33,7 +34,8 @@ filled s i = not (eqb (byte s i) 0)
 abbrev pub within : ℕ → ℕ → ℕ → Bool
 within p n i = leb p i && ltb i (p + n)
 
--- "An id is 32 bytes: values 33 to 126, then zeros." "an id to its first wrong byte": one that no id could have after the bytes before it
+-- "An id is 32 bytes: values 33 to 126, then zeros": a byte of another value, or one after a zero. As 4 names the lowest byte, it is "an id to
+-- its first wrong byte".
 unfoldable pub idWrong : List ℕ → ℕ → ℕ → Bool
 idWrong s p i = within p 32 i && filled s i && (ltb (byte s i) 33 || ltb 126 (byte s i) || (ltb p i && not (filled s (i - 1))))
 
