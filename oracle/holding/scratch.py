@@ -65,7 +65,6 @@ use Rattle.rules.specs.Kinds.{Kinds, Rows}
 use Rattle.rules.specs.Refusal.{Answer, Placed, Told, told}
 use Rattle.rules.specs.Catalog.{Catalog, Id, Row}
 use Rattle.rules.specs.Compile.{Compiled}
-use Rattle.rules.specs.Table.{Entry, entry}
 use Rattle.rules.specs.Formula.{Term, Meaning, Ended}
 use Rattle.rules.specs.Lookup.{Exponent, exact, inexact}
 """
@@ -122,12 +121,26 @@ these l o t = record {
 abbrev pub seen : Kinds → List One
 seen K = laws-Ranges.tab (λ k. one (K .dims k) (K .grade k) (K .difference k) (K .rateOf k) (K .rate k)) (K .count)
 
+-- ---- rows in force
+pub record Entry : Type 0 where
+  pub left : ℕ
+  pub op : ProductOp
+  pub right : ℕ
+  pub result : ℕ
+
+abbrev pub entry : ℕ → ProductOp → ℕ → ℕ → Entry
+entry l op r k = record { left = l; op = op; right = r; result = k }
+
+abbrev pub words : List Entry → List ℕ
+words [] = []
+words (e ∷ l) = rules-Table.rowWords (e .left) (e .op) (e .right) (e .result) ++ words l
+
 -- ---- what was said: a kind, a number, a refusal with its place and all that it returns, a compilation
 pub data Said : Type 0 where
   kind : ℕ → Said
   number : Said
   refuses : ℕ → Told → Said
-  compiled : List One → Option ℕ → Option ℕ → List Entry → List (Option ℕ) → Said
+  compiled : List One → Option ℕ → Option ℕ → List ℕ → List (Option ℕ) → Said
 
 abbrev pub plainly : ℕ → ℕ → List ℕ → Said
 plainly p n vs = refuses p (record { number = n; dims = none; values = vs; twins = [] })

@@ -88,7 +88,7 @@ def entry(left, operation, right, result):
 
 
 def entries(answer):
-    return listed([entry(row.left, row.operation, row.right, row.result) for row in answer.rows])
+    return "(words " + listed([entry(row.left, row.operation, row.right, row.result) for row in answer.rows]) + ")"
 
 
 # ---- What a catalog declares. Ids stand without their padding.

@@ -12,7 +12,7 @@ use Rattle.laws.specs.Options.{orElse}
 use Rattle.laws.specs.Ranges.{firstFrom}
 use Rattle.laws.proofs.FirstFrom.{from-same, from-split}
 use Rattle.rules.specs.Bytes.{byte}
-use Rattle.rules.specs.Layout.{filled, headWrong, spareWrong, blockWrong}
+use Rattle.rules.specs.Layout.{filled, blockHeadWrong, spareWrong, blockWrong}
 use Rattle.catalog.specs.Shown.{headAt, recordsAt}
 use Rattle.catalog.proofs.Header.{part, or-none}
 use Rattle.catalog.proofs.Exponents.{nowhere}
@@ -66,18 +66,18 @@ module _ (wrong : List ℕ → ℕ → ℕ → Bool) (type bytes m n from b : �
   place x l = omega arith
 
   -- the head
-  in-head : (x : ℕ) → x < 4 → T (P + x) ≡ headWrong s type h (P + x)
+  in-head : (x : ℕ) → x < 4 → T (P + x) ≡ blockHeadWrong s type h (P + x)
   unfolding blockWrong
   in-head x l = rw (place x (omega arith), lt-ltb x 4 l)
 
-  at-head : (x : ℕ) → x < 4 → headWrong s type h (P + x) ≡ ((eqb x 2 && not (eqb (byte s (P + x)) type)) || (eqb x 3 && not (eqb (byte s (P + x)) h)))
-  unfolding headWrong
+  at-head : (x : ℕ) → x < 4 → blockHeadWrong s type h (P + x) ≡ ((eqb x 2 && not (eqb (byte s (P + x)) type)) || (eqb x 3 && not (eqb (byte s (P + x)) h)))
+  unfolding blockHeadWrong
   at-head x l = rw (place x (omega arith))
 
   head : firstFrom T P 4 ≡ headAt s P type h
   unfolding firstFrom headAt
   head =
-      from-same T P (headWrong s type h) 4 in-head
+      from-same T P (blockHeadWrong s type h) 4 in-head
       ∙ rw (firstFrom, at-head 3 (omega arith), firstFrom, at-head 2 (omega arith), firstFrom, at-head 1 (omega arith), firstFrom, at-head 0 (omega arith), or-false)
 
   -- record g, of those that the block holds

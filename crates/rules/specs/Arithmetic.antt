@@ -1,7 +1,7 @@
 -- 01, 'Products, sums and powers': each in 01's order, the order of the lines.
 use Prim.Native.Nat.{ℕ}
 use mathlib.Core.Bool.{cond, not, _||_}
-use mathlib.Core.List.{List, [], _∷_}
+use mathlib.Core.List.{List, [], _∷_, map}
 use mathlib.Core.Option.{Option, some, none}
 use lib.Dec.{eqb, ltb}
 use lib.ListN.{getD}
@@ -23,9 +23,9 @@ use Rattle.rules.specs.Refusal.{Answer, Refusal, UnresolvedDimensions, P
 unfoldable pub indexed : Kinds → ℕ → Answer (Unit {0})
 indexed K k = refuseIf (not (ltb k (K .count))) (NoKind k)
 
--- 19
-unfoldable pub resolved : Kinds → ℕ → Answer Dimensions
-resolved K k = needed (K .dims k) (UnresolvedDimensions k)
+-- 19: its dimensions
+unfoldable pub operand : Kinds → ℕ → Answer Dimensions
+operand K k = needed (K .dims k) (UnresolvedDimensions k)
 
 -- 24
 module _ {E : Type 0} where
@@ -50,8 +50,8 @@ joined Wedge a b = D.product a b .value
 -- "Then for a product: 19 left, 19 right, 23 left, 23 right, 24."
 unfoldable pub derive : Kinds → ℕ → ProductOp → ℕ → Answer Graded
 derive K l op r = do
-  a ← resolved K l
-  b ← resolved K r
+  a ← operand K l
+  b ← operand K r
   refuseIf (point K l) (Point l op r l)
   refuseIf (point K r) (Point l op r r)
   g ← graded K l op r
@@ -89,11 +89,12 @@ fitting [] = nothing
 fitting (k ∷ []) = is k
 fitting (k ∷ m ∷ ks) = twins (k ∷ m ∷ ks)
 
-abbrev pub first-of : Option ℕ → Resolved → Resolved
-first-of o other = found o is other
+-- the kind that is known already, or else one that fits
+abbrev pub orFitting : Kinds → Option ℕ → Graded → Resolved
+orFitting K o x = found o is (fitting (candidates K x))
 
 unfoldable pub resolve : Kinds → ℕ → ProductOp → ℕ → Graded → Resolved
-resolve K l op r x = first-of (orElse (neutral K l op r) (rated K l op r)) (fitting (candidates K x))
+resolve K l op r x = orFitting K (orElse (neutral K l op r) (rated K l op r)) x
 
 abbrev pub settle : Resolved → Refusal → (List ℕ → Answer ℕ) → Answer ℕ
 settle (is k) x several = given k
@@ -135,16 +136,17 @@ scaled K code k = do
 
 -- ---- powers
 -- "then exponent zero or the dimensionless kind gives that kind where declared"
-unfoldable pub flat : Kinds → ℕ → Rational → Option ℕ
-flat K k e = found (K .dimensionless) (λ o. cond (F.isZero e || eqb k o) (some o) none) none
+unfoldable pub neutralPower : Kinds → ℕ → Rational → Option ℕ
+neutralPower K k e = found (K .dimensionless) (λ o. cond (F.isZero e || eqb k o) (some o) none) none
 
 -- "46, 19, 28, then .., then 47 or 48"
 unfoldable pub raised : Kinds → ℕ → Rational → Answer ℕ
 raised K k e = do
   refuseIf (not (eqb (K .grade k) 0)) (UngradedPower (K .grade k))
-  a ← resolved K k
+  a ← operand K k
   refuseIf (D.power a e .over) (PowerOverLimits k)
-  settle (first-of (flat K k e) (fitting (candidates K (record { dims = D.power a e .value; grade = 0 })))) (NoPowerKind (D.power a e .value)) (λ ks. refused (UnresolvedPowerTwin ks))
+  d ← given (D.power a e .value)
+  settle (orFitting K (neutralPower K k e) (record { dims = d; grade = 0 })) (NoPowerKind d) (λ ks. refused (UnresolvedPowerTwin k e ks))
 
 -- "Power: 43 (point or inexact), exponent one gives the kind". No exponent: an inexact one; the code is the token's
 unfoldable pub power : Kinds → ℕ → ℕ → Option Rational → Answer ℕ
@@ -164,14 +166,13 @@ combine K rows (summed s) l r = sum K s l r
 combine K rows (multiplied op) l r = product K rows l op r
 
 -- "2 Add, 3 Sub, 4 Mul, 5 Div, 6 Dot, 7 Wedge"
+abbrev pub ops : List Op
+ops = summed Add ∷ summed Sub ∷ multiplied Mul ∷ multiplied Div ∷ multiplied Dot ∷ multiplied Wedge ∷ []
+
+unfoldable pub opBy : ℕ → Option Op
+opBy code = getD (none ∷ none ∷ map some ops) code none
+
 abbrev pub opCode : Op → ℕ
 opCode (summed Add) = 2
 opCode (summed Sub) = 3
 opCode (multiplied op) = codeOf op
-
-unfoldable pub opBy : ℕ → Option Op
-opBy code =
-    getD
-    (none ∷ none ∷ some (summed Add) ∷ some (summed Sub) ∷ some (multiplied Mul) ∷ some (multiplied Div) ∷ some (multiplied Dot) ∷ some (multiplied Wedge) ∷ [])
-    code
-    none

@@ -1,5 +1,5 @@
 -- What an image declares, record by record, and the kinds and rows that its ids come to.
-use Prim.Native.Nat.{ℕ, zero, suc, _+_, _*_, _/_, _%_}
+use Prim.Native.Nat.{ℕ, _+_, _*_, _/_, _%_}
 use mathlib.Core.Bool.{Bool, true, false, cond, _&&_, _||_}
 use mathlib.Core.List.{List, [], _∷_}
 use mathlib.Core.Option.{Option, some, none}
@@ -12,9 +12,7 @@ use Rattle.dimension.specs.Dimension as D
 use Rattle.dimension.specs.declared.rational.Rational.{Rational}
 use Rattle.dimension.specs.declared.dimensions.Dimensions.{Dimensions}
 use Rattle.dimension.specs.declared.grade.ProductOp.{ProductOp}
-use Rattle.dimension.specs.declared.grade.ProductOp.the-variants.{Mul, Div, Dot, Wedge}
-use Rattle.rules.specs.Kinds.{Kinds, Rows}
-use Rattle.rules.specs.Refusal.{codeOf}
+use Rattle.rules.specs.Kinds.{Kinds, Rows, opOf, sameOp}
 use Rattle.rules.specs.Bytes.{byte, le2}
 use Rattle.rules.specs.Layout.{kindCount, rowCount, kindBlocks}
 
@@ -78,13 +76,7 @@ kindFrom s p = record {
   grade = byte s (p + 145);
 }
 
--- "operation at 96 (0 Mul, 1 Div, 2 Dot, 3 Wedge)"
-unfoldable pub opOf : ℕ → ProductOp
-opOf zero = Mul
-opOf (suc zero) = Div
-opOf (suc (suc zero)) = Dot
-opOf (suc (suc (suc n))) = Wedge
-
+-- "left, right, result ids at 0, 32, 64; operation at 96 ..; commutative 0 or 1 at 97"
 unfoldable pub rowFrom : List ℕ → ℕ → Row
 rowFrom s p = record {
   left = idAt s p;
@@ -120,9 +112,6 @@ catalogIn s = record {
 abbrev pub meant : ℕ → Option ℕ → Bool
 meant k o = found o (λ j. eqb j k) false
 
-abbrev pub sameOp : ProductOp → ProductOp → Bool
-sameOp a b = eqb (codeOf a) (codeOf b)
-
 module _ (C : Catalog) where
   -- the first kind of this id
   unfoldable pub find : Id → Option ℕ
@@ -142,9 +131,12 @@ module _ (C : Catalog) where
   unfoldable pub rateAmong : ℕ → ℕ → Option ℕ
   rateAmong n t = first (λ k. meant t (targetOf k)) n
 
-  -- "a kind named as one is a difference"
   unfoldable pub isDifference : ℕ → Bool
   isDifference k = isSome (first (λ j. meant k (differenceOf j)) (C .kindCount))
+
+  -- "A kind with a difference is a point; a kind named as one is a difference; others are linear." 0 linear, 1 point, 2 difference
+  unfoldable pub role : ℕ → ℕ
+  role k = cond (isSome (differenceOf k)) 1 (cond (isDifference k) 2 0)
 
   unfoldable pub kindsOf : Kinds
   kindsOf = record {

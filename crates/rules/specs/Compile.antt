@@ -9,10 +9,10 @@ use Rattle.laws.specs.Ranges.{first}
 use Rattle.dimension.specs.Dimension as D
 use Rattle.dimension.specs.declared.dimensions.Dimensions.{Dimensions}
 use Rattle.dimension.specs.declared.grade.ProductOp.the-variants.{Div}
-use Rattle.rules.specs.Kinds.{Kinds, Rows, Graded, point, duration, carries}
+use Rattle.rules.specs.Kinds.{Kinds, Rows, Graded, sameOp, point, duration, carries}
 use Rattle.rules.specs.Refusal.{Answer, Placed, at, EmptyId, Duplicate, Unknown, AffineDimensionMismatch, NestedAffineSpace, InvalidDimensionlessKind, InvalidTimeKind, NoTimeKind, PointRate, RateMismatch, AlsoRateOf, CommutativeQuotient, Point, InvalidOperationRule, DerivedOperationRule, ConflictingOperationRule}
-use Rattle.rules.specs.Arithmetic.{Resolved, is, twins, nothing, resolved, derive, resolve}
-use Rattle.rules.specs.Catalog.{Id, blank, same, Catalog, sameOp, find, rateAmong, isDifference, kindsOf, rowAmong, rowsOf}
+use Rattle.rules.specs.Arithmetic.{Resolved, is, twins, nothing, operand, derive, resolve}
+use Rattle.rules.specs.Catalog.{Id, blank, same, Catalog, find, rateAmong, role, kindsOf, rowAmong, rowsOf}
 
 abbrev pub Checked : Type 0
 Checked = Answer (Unit {0})
@@ -49,15 +49,11 @@ module _ (C : Catalog) where
     refuseIf (not (sameDims (C .kind k .dims) (C .kind d .dims))) (AffineDimensionMismatch k d)
     refuseIf (not (blank (C .kind d .difference))) (NestedAffineSpace k d))
 
-  -- "A kind with a difference is a point; a kind named as one is a difference; others are linear."
-  unfoldable pub linear : ℕ → Bool
-  linear k = not (point K k) && not (isDifference C k)
-
   -- "Dimensionless: 12, then 15."
   unfoldable pub dimensionlessRule : Checked
   dimensionlessRule = ifDeclared (C .dimensionless) (do
     o ← called 0 (C .dimensionless)
-    refuseIf (not (linear o && sameDims (C .kind o .dims) (some D.one))) (InvalidDimensionlessKind o))
+    refuseIf (not (eqb (role C o) 0 && sameDims (C .kind o .dims) (some D.one))) (InvalidDimensionlessKind o))
 
   -- "Time: 12, then 16."
   unfoldable pub timeRule : Checked
@@ -72,9 +68,9 @@ module _ (C : Catalog) where
     d ← needed (duration K) (NoTimeKind k t)
     refuseIf (point K k) (PointRate k t k)
     refuseIf (point K t) (PointRate k t t)
-    a ← resolved K k
-    resolved K t
-    c ← resolved K d
+    a ← operand K k
+    operand K t
+    c ← operand K d
     x ← given (record { dims = D.product a c .value; grade = K .grade k })
     refuseIf (not (carries K x t)) (RateMismatch x)
     refuseFound (rateAmong C k t) AlsoRateOf)
@@ -98,7 +94,7 @@ module _ (C : Catalog) where
     r ← called i (C .row i .right)
     k ← called i (C .row i .result)
     refuseIf (point K k) (Point l (C .row i .op) r k)
-    resolved K k
+    operand K k
     x ← derive K l (C .row i .op) r
     refuseIf (not (carries K x k)) (InvalidOperationRule x)
     several (resolve K l (C .row i .op) r x) x

@@ -68,17 +68,17 @@ module _ {E A : Type 0} where
   onto s (refused x) = stop x
 
   -- "At most 32 terms are held together"
-  abbrev pub with-none : Out E A → List A → Step E A
-  with-none m s = cond (ltb (length s) 32) (onto s m) bad
+  abbrev pub withNone : Out E A → List A → Step E A
+  withNone m s = cond (ltb (length s) 32) (onto s m) bad
 
-  abbrev pub with-one : (A → Out E A) → List A → Step E A
-  with-one f [] = bad
-  with-one f (a ∷ s) = onto s (f a)
+  abbrev pub withOne : (A → Out E A) → List A → Step E A
+  withOne f [] = bad
+  withOne f (a ∷ s) = onto s (f a)
 
-  abbrev pub with-two : (A → A → Out E A) → List A → Step E A
-  with-two f [] = bad
-  with-two f (b ∷ []) = bad
-  with-two f (b ∷ a ∷ s) = onto s (f a b)
+  abbrev pub withTwo : (A → A → Out E A) → List A → Step E A
+  withTwo f [] = bad
+  withTwo f (b ∷ []) = bad
+  withTwo f (b ∷ a ∷ s) = onto s (f a b)
 
   -- "one remains"; "token count if the end leaves several"
   abbrev pub last : ℕ → List A → Ended E A
@@ -88,10 +88,10 @@ module _ {E A : Type 0} where
 
 module _ {E A : Type 0} (M : Machine E A) where
   abbrev pub step : Token → List A → Step E A
-  step number s = with-none (given (M .number)) s
-  step (kind k) s = with-none (M .kind k) s
-  step (unary u) s = cond (inLimits u) (with-one (M .unary u) s) bad
-  step (binary b) s = with-two (M .binary b) s
+  step number s = withNone (given (M .number)) s
+  step (kind k) s = withNone (M .kind k) s
+  step (unary u) s = cond (inLimits u) (withOne (M .unary u) s) bad
+  step (binary b) s = withTwo (M .binary b) s
   step unreadable s = bad
 
   -- "token by token, stopping at the first refusal"

@@ -12,7 +12,7 @@ use Rattle.rules.specs.Layout.{byteWrong}
 use Rattle.rules.specs.Refusal.{Refusal, Placed, at, ImageLength, Short, WrongBlock, Schema, WrongByte}
 use Rattle.rules.specs.Catalog.{catalogIn}
 use Rattle.rules.specs.Compile.{Compiled, compile}
-use Rattle.rules.specs.Table.{tableWords}
+use Rattle.rules.specs.Table.{tableSize, tableWords}
 
 -- 1: "1 to 121 blocks of 512 bytes"
 unfoldable pub lengthWrong : List ℕ → Bool
@@ -23,7 +23,7 @@ lengthCheck s = at 0 (refuseIf (lengthWrong s) (ImageLength (length s)))
 
 -- 5: "table under 9,296 32-bit words"
 unfoldable pub roomCheck : ℕ → Placed (Unit {0})
-roomCheck room = at 0 (refuseIf (ltb room 9296) (Short room))
+roomCheck room = at 0 (refuseIf (ltb room tableSize) (Short room))
 
 -- refused at the first place below n that is wrong, which is returned too
 abbrev pub refuseFirst : (ℕ → Bool) → ℕ → (ℕ → Refusal) → Placed (Unit {0})

@@ -1,14 +1,16 @@
 -- A compiled catalog: what its kinds are, and which kind a row names. Both are functions of indexes; how they are laid out in words is told in Table.
 use Prim.Native.Nat.{ℕ}
 use mathlib.Core.Bool.{Bool, false, not, _&&_}
-use mathlib.Core.List.{List}
+use mathlib.Core.List.{List, [], _∷_}
 use mathlib.Core.Option.{Option, none}
 use lib.Dec.{eqb}
+use lib.ListN.{getD}
 use Rattle.laws.specs.Options.{isSome, found}
 use Rattle.laws.specs.Ranges.{picked}
 use Rattle.dimension.specs.Dimension as D
 use Rattle.dimension.specs.declared.dimensions.Dimensions.{Dimensions}
 use Rattle.dimension.specs.declared.grade.ProductOp.{ProductOp}
+use Rattle.dimension.specs.declared.grade.ProductOp.the-variants.{Mul, Div, Dot, Wedge}
 
 pub record Kinds : Type 0 where
   pub count : ℕ
@@ -21,6 +23,19 @@ pub record Kinds : Type 0 where
   pub rate : ℕ → Option ℕ
   pub dimensionless : Option ℕ
   pub time : Option ℕ
+
+-- "operation at 96 (0 Mul, 1 Div, 2 Dot, 3 Wedge)", in the image and in the table
+abbrev pub opWord : ProductOp → ℕ
+opWord Mul = 0
+opWord Div = 1
+opWord Dot = 2
+opWord Wedge = 3
+
+unfoldable pub opOf : ℕ → ProductOp
+opOf n = getD (Mul ∷ Div ∷ Dot ∷ []) n Wedge
+
+abbrev pub sameOp : ProductOp → ProductOp → Bool
+sameOp a b = eqb (opWord a) (opWord b)
 
 -- the kind that the rows in force name for left, operation and right
 abbrev pub Rows : Type 0

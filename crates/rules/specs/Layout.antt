@@ -79,8 +79,8 @@ rowWrong s p i =
     || (leb (p + 98) i && filled s i)
 
 -- "Byte 2: 0 header, 1 kinds, 2 rows. Byte 3: records in the block." "only the last of a type may be short"
-unfoldable pub headWrong : List ℕ → ℕ → ℕ → ℕ → Bool
-headWrong s type held i = (eqb (i % 512) 2 && not (eqb (byte s i) type)) || (eqb (i % 512) 3 && not (eqb (byte s i) held))
+unfoldable pub blockHeadWrong : List ℕ → ℕ → ℕ → ℕ → Bool
+blockHeadWrong s type held i = (eqb (i % 512) 2 && not (eqb (byte s i) type)) || (eqb (i % 512) 3 && not (eqb (byte s i) held))
 
 -- past the records of a block all is unnamed but the sum
 unfoldable pub spareWrong : List ℕ → ℕ → Bool
@@ -89,7 +89,7 @@ spareWrong s i = ltb (i % 512) 508 && filled s i
 -- a block of a type, of records of so many bytes, m to a block, n in all, that begins with record `from`
 unfoldable pub blockWrong : (List ℕ → ℕ → ℕ → Bool) → ℕ → ℕ → ℕ → ℕ → ℕ → List ℕ → ℕ → Bool
 blockWrong recordWrong type bytes m n from s i =
-    cond (ltb (i % 512) 4) (headWrong s type (min m (n - from)) i)
+    cond (ltb (i % 512) 4) (blockHeadWrong s type (min m (n - from)) i)
     (cond (ltb (i % 512) (4 + m * bytes) && ltb (from + (i % 512 - 4) / bytes) n) (recordWrong s (i - (i % 512 - 4) % bytes) i)
     (spareWrong s i))
 

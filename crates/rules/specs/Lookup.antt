@@ -14,12 +14,12 @@ use Rattle.dimension.specs.declared.rational.Ratio.{Ratio}
 use Rattle.dimension.specs.declared.rational.Ratio.the-variants.{Is, Over}
 use Rattle.rules.specs.Refusal.{Answer, Placed, at, Short, NoTable, Malformed}
 use Rattle.rules.specs.Arithmetic as rule
-use Rattle.rules.specs.Table.{kindsOf, rowsOf, isTable, areRows}
+use Rattle.rules.specs.Table.{tableSize, kindsOf, rowsOf, isTable, areRows}
 
 -- "table under 9,296 32-bit words, or twin list under 240 16-bit": 5, "length lent, the table's first"
 unfoldable pub roomy : List ℕ → List ℕ → Answer (Unit {0})
 roomy table twins = do
-  refuseIf (ltb (length table) 9296) (Short (length table))
+  refuseIf (ltb (length table) tableSize) (Short (length table))
   refuseIf (ltb (length twins) 240) (Short (length twins))
 
 -- 40

@@ -1,62 +1,42 @@
 -- Why something is refused: a case for each cause of 01's table, with all that is returned; its number, values and twin list.
-use Prim.Native.Nat.{ℕ}
+use Prim.Native.Nat.{ℕ, _+_}
 use mathlib.Core.List.{List, [], _∷_}
 use mathlib.Core.Option.{Option, some, none}
 use lib.ListN.{length}
 use Rattle.laws.specs.Out.{Out, given, refused}
 use Rattle.laws.specs.Ranges.{overlay}
+use Rattle.dimension.specs.declared.rational.Rational.{Rational}
 use Rattle.dimension.specs.declared.dimensions.Dimensions.{Dimensions}
 use Rattle.dimension.specs.declared.grade.ProductOp.{ProductOp}
-use Rattle.dimension.specs.declared.grade.ProductOp.the-variants.{Mul, Div, Dot, Wedge}
-use Rattle.rules.specs.Kinds.{Graded}
+use Rattle.rules.specs.Kinds.{Graded, opWord}
 
 pub data Refusal : Type 0 where
   -- lent buffers and bytes
-  ImageLength : ℕ → Refusal
-  WrongBlock : ℕ → Refusal
-  Schema : ℕ → Refusal
-  WrongByte : ℕ → Refusal
-  Short : ℕ → Refusal
+  ImageLength WrongBlock Schema WrongByte Short : ℕ → Refusal
   -- compilation
-  EmptyId : ℕ → Refusal
-  Duplicate : ℕ → Refusal
-  Unknown : ℕ → Refusal
-  AffineDimensionMismatch : ℕ → ℕ → Refusal
-  NestedAffineSpace : ℕ → ℕ → Refusal
-  InvalidDimensionlessKind : ℕ → Refusal
-  InvalidTimeKind : ℕ → Refusal
-  NoTimeKind : ℕ → ℕ → Refusal
+  EmptyId Duplicate Unknown InvalidDimensionlessKind InvalidTimeKind AlsoRateOf CommutativeQuotient DerivedOperationRule : ℕ → Refusal
+  AffineDimensionMismatch NestedAffineSpace NoTimeKind ConflictingOperationRule : ℕ → ℕ → Refusal
   PointRate : ℕ → ℕ → ℕ → Refusal
+  RateMismatch InvalidOperationRule : Graded → Refusal
+  -- what two kinds or one are derived as
   UnresolvedDimensions : ℕ → Refusal
-  RateMismatch : Graded → Refusal
-  AlsoRateOf : ℕ → Refusal
-  CommutativeQuotient : ℕ → Refusal
   Point : ℕ → ProductOp → ℕ → ℕ → Refusal
   Ungraded : ℕ → ℕ → ℕ → ℕ → Refusal
-  InvalidOperationRule : Graded → Refusal
-  DerivedOperationRule : ℕ → Refusal
-  ConflictingOperationRule : ℕ → ℕ → Refusal
-  -- lookups and formulas
-  PowerOverLimits : ℕ → Refusal
-  NoTable : Refusal
-  NoKind : ℕ → Refusal
-  KindMismatch : ℕ → ℕ → Refusal
-  UnsupportedOperation : ℕ → ℕ → ℕ → Refusal
-  -- of this left, operation and right, the kinds that fit
-  UnresolvedTwin : ℕ → ProductOp → ℕ → List ℕ → Refusal
   NoProductKind : Graded → Refusal
-  UngradedPower : ℕ → Refusal
+  PowerOverLimits UngradedPower : ℕ → Refusal
   NoPowerKind : Dimensions → Refusal
-  UnresolvedPowerTwin : List ℕ → Refusal
-  NumberTerm : ℕ → ℕ → Refusal
-  Malformed : ℕ → Refusal
+  -- of this left, operation and right, and of this base and exponent, the kinds that fit
+  UnresolvedTwin : ℕ → ProductOp → ℕ → List ℕ → Refusal
+  UnresolvedPowerTwin : ℕ → Rational → List ℕ → Refusal
+  -- lookups and formulas
+  NoTable : Refusal
+  NoKind Malformed : ℕ → Refusal
+  KindMismatch NumberTerm : ℕ → ℕ → Refusal
+  UnsupportedOperation : ℕ → ℕ → ℕ → Refusal
 
 -- "An operation is returned as the code of its token, for rows and lone lookups too (Mul is 4)"
 abbrev pub codeOf : ProductOp → ℕ
-codeOf Mul = 4
-codeOf Div = 5
-codeOf Dot = 6
-codeOf Wedge = 7
+codeOf op = 4 + opWord op
 
 -- "a kind that isn't there as 65,535"
 abbrev pub absent : ℕ
@@ -72,11 +52,11 @@ pub record Told : Type 0 where
 abbrev says : ℕ → List ℕ → Told
 says n vs = record { number = n; dims = none; values = vs; twins = [] }
 
-abbrev says-dims : ℕ → Dimensions → ℕ → Told
-says-dims n d g = record { number = n; dims = some d; values = g ∷ []; twins = [] }
+abbrev saysDims : ℕ → Dimensions → ℕ → Told
+saysDims n d g = record { number = n; dims = some d; values = g ∷ []; twins = [] }
 
-abbrev says-twins : ℕ → List ℕ → Told
-says-twins n ks = record { number = n; dims = none; values = length ks ∷ []; twins = ks }
+abbrev saysTwins : ℕ → List ℕ → Told
+saysTwins n ks = record { number = n; dims = none; values = length ks ∷ []; twins = ks }
 
 unfoldable pub told : Refusal → Told
 told (ImageLength n) = says 1 (n ∷ [])
@@ -94,12 +74,12 @@ told (InvalidTimeKind k) = says 16 (k ∷ [])
 told (NoTimeKind k t) = says 17 (k ∷ t ∷ absent ∷ [])
 told (PointRate k t p) = says 18 (k ∷ t ∷ p ∷ [])
 told (UnresolvedDimensions k) = says 19 (k ∷ [])
-told (RateMismatch x) = says-dims 20 (x .dims) (x .grade)
+told (RateMismatch x) = saysDims 20 (x .dims) (x .grade)
 told (AlsoRateOf k) = says 21 (k ∷ [])
 told (CommutativeQuotient i) = says 22 (i ∷ [])
 told (Point l op r k) = says 23 (l ∷ codeOf op ∷ r ∷ k ∷ [])
 told (Ungraded l r a b) = says 24 (l ∷ r ∷ a ∷ b ∷ [])
-told (InvalidOperationRule x) = says-dims 25 (x .dims) (x .grade)
+told (InvalidOperationRule x) = saysDims 25 (x .dims) (x .grade)
 told (DerivedOperationRule k) = says 26 (k ∷ [])
 told (ConflictingOperationRule l r) = says 27 (l ∷ r ∷ [])
 told (PowerOverLimits k) = says 28 (k ∷ [])
@@ -107,11 +87,11 @@ told NoTable = says 40 (0 ∷ [])
 told (NoKind k) = says 41 (k ∷ [])
 told (KindMismatch e a) = says 42 (e ∷ a ∷ [])
 told (UnsupportedOperation c l r) = says 43 (c ∷ l ∷ r ∷ [])
-told (UnresolvedTwin l op r ks) = says-twins 44 ks
-told (NoProductKind x) = says-dims 45 (x .dims) (x .grade)
+told (UnresolvedTwin l op r ks) = saysTwins 44 ks
+told (NoProductKind x) = saysDims 45 (x .dims) (x .grade)
 told (UngradedPower g) = says 46 (g ∷ [])
-told (NoPowerKind d) = says-dims 47 d 0
-told (UnresolvedPowerTwin ks) = says-twins 48 ks
+told (NoPowerKind d) = saysDims 47 d 0
+told (UnresolvedPowerTwin k e ks) = saysTwins 48 ks
 told (NumberTerm c k) = says 49 (c ∷ k ∷ [])
 told (Malformed p) = says 50 (p ∷ [])
 

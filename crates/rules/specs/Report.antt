@@ -11,6 +11,7 @@ use Rattle.rules.specs.Refusal.{Placed, told}
 use Rattle.rules.specs.Layout.{kindCount, blocksBy, filled}
 use Rattle.rules.specs.Catalog.{kindAt}
 use Rattle.rules.specs.Image.{imageCheck, compileImage}
+use Rattle.rules.specs.Table.{tableSize}
 use Rattle.rules.specs.Formula.{Term, Number, Kind}
 use Rattle.rules.specs.Call.{formulaIn}
 
@@ -55,7 +56,7 @@ line image (refused x) = (114 ∷ 101 ∷ 102 ∷ 117 ∷ 115 ∷ 101 ∷ 100 �
 -- the image is compiled into a table of the program's own, so 5 and 40 don't arise
 unfoldable pub checked : List ℕ → List ℕ → Placed Term
 checked image bytes = do
-  C ← compileImage image 9296
+  C ← compileImage image tableSize
   formulaIn (C .kinds) (C .rows) bytes
 
 unfoldable pub kindcheck : List ℕ → List ℕ

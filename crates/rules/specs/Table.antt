@@ -1,6 +1,6 @@
 -- The table's words, 16 + 240 × 32 + 400 × 4: what they are read as, which words are a table (40), and which words a compilation writes.
 -- docs/TABLE.md has the layout as a picture.
-use Prim.Native.Nat.{ℕ, zero, suc, _+_, _*_, _-_, _/_, _%_}
+use Prim.Native.Nat.{ℕ, zero, suc, _+_, _*_, _-_, _/_, _%_, min}
 use mathlib.Core.Bool.{Bool, true, cond, not, _&&_, _||_}
 use mathlib.Core.List.{List, [], _∷_, _++_}
 use mathlib.Core.Option.{Option, some, none}
@@ -14,11 +14,9 @@ use Rattle.dimension.specs.Dimension as D
 use Rattle.dimension.specs.declared.rational.Rational.{Rational}
 use Rattle.dimension.specs.declared.dimensions.Dimensions.{Dimensions}
 use Rattle.dimension.specs.declared.grade.ProductOp.{ProductOp}
-use Rattle.dimension.specs.declared.grade.ProductOp.the-variants.{Mul, Div, Dot, Wedge}
-use Rattle.rules.specs.Kinds.{Kinds, Rows}
+use Rattle.rules.specs.Kinds.{Kinds, Rows, opWord}
 use Rattle.rules.specs.Refusal.{absent}
-use Rattle.rules.specs.Catalog as catalog
-use Rattle.rules.specs.Catalog.{Catalog, Row, find, link, isDifference}
+use Rattle.rules.specs.Catalog.{Catalog, Row, find, link, differenceOf, targetOf, rateAmong, role}
 
 -- ---- places
 abbrev pub word : List ℕ → ℕ → ℕ
@@ -31,7 +29,15 @@ kindPlace k = 16 + 32 * k
 abbrev pub rowPlace : ℕ → ℕ
 rowPlace i = 16 + 240 * 32 + 4 * i
 
+-- "the table's first 9,296 words"
+abbrev pub tableSize : ℕ
+tableSize = rowPlace 400
+
 -- ---- what the words are read as
+-- the kind count; no table has more kinds, and no more are ever read
+abbrev pub kindsIn : List ℕ → ℕ
+kindsIn t = min 240 (word t 0)
+
 -- an index, or none
 abbrev pub indexOr : ℕ → Option ℕ
 indexOr w = cond (ltb w absent) (some w) none
@@ -45,22 +51,15 @@ dimsFrom t p = D.dimensions (tab (exponentFrom t p) 12)
 
 unfoldable pub kindsOf : List ℕ → Kinds
 kindsOf t = record {
-  count = word t 0;
-  dims = below (word t 0) none (λ k. cond (eqb (word t (kindPlace k + 24)) 1) (some (dimsFrom t (kindPlace k))) none);
-  grade = below (word t 0) 0 (λ k. word t (kindPlace k + 25));
-  difference = below (word t 0) none (λ k. indexOr (word t (kindPlace k + 27)));
-  rateOf = below (word t 0) none (λ k. indexOr (word t (kindPlace k + 28)));
-  rate = below (word t 0) none (λ k. indexOr (word t (kindPlace k + 29)));
+  count = kindsIn t;
+  dims = below (kindsIn t) none (λ k. cond (eqb (word t (kindPlace k + 24)) 1) (some (dimsFrom t (kindPlace k))) none);
+  grade = below (kindsIn t) 0 (λ k. word t (kindPlace k + 25));
+  difference = below (kindsIn t) none (λ k. indexOr (word t (kindPlace k + 27)));
+  rateOf = below (kindsIn t) none (λ k. indexOr (word t (kindPlace k + 28)));
+  rate = below (kindsIn t) none (λ k. indexOr (word t (kindPlace k + 29)));
   dimensionless = indexOr (word t 2);
   time = indexOr (word t 3);
 }
-
--- "operation 0 to 3"
-abbrev pub opWord : ProductOp → ℕ
-opWord Mul = 0
-opWord Div = 1
-opWord Dot = 2
-opWord Wedge = 3
 
 -- row i of lent rows, four words each, is for that very left, operation and right
 unfoldable pub isRow : List ℕ → ℕ → ProductOp → ℕ → ℕ → Bool
@@ -68,7 +67,7 @@ isRow s l op r i = eqb (word s (4 * i)) l && eqb (word s (4 * i + 1)) (opWord op
 
 -- "the first for a pair counts"
 unfoldable pub rowsOf : List ℕ → Rows
-rowsOf s l op r = found (first (isRow s l op r) (length s / 4)) (λ i. some (word s (4 * i + 3))) none
+rowsOf s l op r = found (first (isRow s l op r) (length s / 4)) (λ i. indexOr (word s (4 * i + 3))) none
 
 -- ---- 40: "Words are a table exactly if counts, indexes, roles, grades and declared exponents lie in their ranges, fractions reduced, and exactly
 -- the points have a difference."
@@ -112,51 +111,33 @@ ownRows t = take (4 * word t 1) (drop (rowPlace 0) t)
 
 -- ---- what a compilation writes: "the table's first 9,296 words and nothing else"
 -- a row in force
-pub record Entry : Type 0 where
-  pub left : ℕ
-  pub op : ProductOp
-  pub right : ℕ
-  pub result : ℕ
-
-abbrev pub entry : ℕ → ProductOp → ℕ → ℕ → Entry
-entry l op r k = record { left = l; op = op; right = r; result = k }
+abbrev pub rowWords : ℕ → ProductOp → ℕ → ℕ → List ℕ
+rowWords l op r k = l ∷ opWord op ∷ r ∷ k ∷ []
 
 -- "A commutative row with left = right counts once."
-unfoldable pub entriesOf : Catalog → Row → List Entry
+unfoldable pub entriesOf : Catalog → Row → List ℕ
 entriesOf C x = found (find C (x .left)) (λ l. found (find C (x .right)) (λ r. found (find C (x .result)) (λ k.
-    entry l (x .op) r k ∷ cond (x .commutative && not (eqb l r)) (entry r (x .op) l k ∷ []) []) []) []) []
+    rowWords l (x .op) r k ++ cond (x .commutative && not (eqb l r)) (rowWords r (x .op) l k) []) []) []) []
 
 -- those of the first n rows, in order
-unfoldable pub entriesIn : Catalog → ℕ → List Entry
+unfoldable pub entriesIn : Catalog → ℕ → List ℕ
 entriesIn C zero = []
 entriesIn C (suc n) = entriesIn C n ++ entriesOf C (C .row n)
 
-abbrev pub inForce : Catalog → List Entry
+abbrev pub inForce : Catalog → List ℕ
 inForce C = entriesIn C (C .rowCount)
 
 abbrev pub indexWord : Option ℕ → ℕ
 indexWord o = found o (λ k. k) absent
 
--- 0 linear, 1 point, 2 difference
-unfoldable pub roleWord : Catalog → ℕ → ℕ
-roleWord C k = cond (isSome (catalog.kindsOf C .difference k)) 1 (cond (isDifference C k) 2 0)
-
--- words 0 to 3
-unfoldable pub headWord : Catalog → ℕ → ℕ
-headWord C i = word (C .kindCount ∷ length (inForce C) ∷ indexWord (link C (C .dimensionless)) ∷ indexWord (link C (C .time)) ∷ []) i
+unfoldable pub headWords : Catalog → List ℕ
+headWords C = C .kindCount ∷ length (inForce C) / 4 ∷ indexWord (link C (C .dimensionless)) ∷ indexWord (link C (C .time)) ∷ []
 
 -- words 24 to 29 of kind k
-unfoldable pub markWord : Catalog → ℕ → ℕ → ℕ
-markWord C k i =
-    word
-    (cond (isSome (C .kind k .dims)) 1 0
-    ∷ C .kind k .grade
-    ∷ roleWord C k
-    ∷ indexWord (catalog.kindsOf C .difference k)
-    ∷ indexWord (catalog.kindsOf C .rateOf k)
-    ∷ indexWord (catalog.kindsOf C .rate k)
-    ∷ [])
-    i
+unfoldable pub markWords : Catalog → ℕ → List ℕ
+markWords C k =
+    cond (isSome (C .kind k .dims)) 1 0 ∷ C .kind k .grade ∷ role C k
+    ∷ indexWord (differenceOf C k) ∷ indexWord (targetOf C k) ∷ indexWord (rateAmong C (C .kindCount) k) ∷ []
 
 -- the exponents of an unresolved kind are written as dimension one's
 abbrev pub exponentOf : Catalog → ℕ → ℕ → Rational
@@ -166,19 +147,13 @@ unfoldable pub exponentWord : Rational → ℕ → ℕ
 exponentWord a i = cond (eqb (i % 2) 0) (I.bits32 (a .num)) (a .den)
 
 unfoldable pub kindWord : Catalog → ℕ → ℕ → ℕ
-kindWord C k f = cond (ltb f 24) (exponentWord (exponentOf C k (f / 2)) f) (markWord C k (f - 24))
-
-unfoldable pub rowWord : Entry → ℕ → ℕ
-rowWord x i = word (x .left ∷ opWord (x .op) ∷ x .right ∷ x .result ∷ []) i
-
-abbrev pub noEntry : Entry
-noEntry = entry 0 Mul 0 0
+kindWord C k f = cond (ltb f 24) (exponentWord (exponentOf C k (f / 2)) f) (word (markWords C k) (f - 24))
 
 unfoldable pub tableWord : Catalog → ℕ → ℕ
 tableWord C i =
-    cond (ltb i 16) (headWord C i)
+    cond (ltb i 16) (word (headWords C) i)
     (cond (ltb i (rowPlace 0)) (below (C .kindCount) 0 (λ k. kindWord C k ((i - 16) % 32)) ((i - 16) / 32))
-    (below (length (inForce C)) 0 (λ r. rowWord (getD (inForce C) r noEntry) ((i - rowPlace 0) % 4)) ((i - rowPlace 0) / 4)))
+    (word (inForce C) (i - rowPlace 0)))
 
 unfoldable pub tableWords : Catalog → List ℕ
-tableWords C = tab (tableWord C) 9296
+tableWords C = tab (tableWord C) tableSize

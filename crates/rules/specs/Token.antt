@@ -2,16 +2,15 @@
 -- (signed 32 bits), denominator at 8 (32 bits)."
 use Prim.Native.Nat.{ℕ, _+_, _*_, _/_, _%_}
 use mathlib.Core.Bool.{Bool, cond, _&&_, _||_}
-use mathlib.Core.List.{List, [], _∷_}
+use mathlib.Core.List.{List, [], _∷_, _++_, map}
 use lib.Dec.{eqb, leb}
 use lib.ListN.{length, getD}
 use Rattle.laws.specs.Ranges.{tab}
 use Rattle.dimension.specs.Integer as I
 use Rattle.dimension.specs.Fraction as F
 use Rattle.dimension.specs.declared.rational.Rational.{Rational}
-use Rattle.dimension.specs.declared.grade.ProductOp.the-variants.{Mul, Div, Dot, Wedge}
 use Rattle.rules.specs.Bytes.{byte, le2, le4}
-use Rattle.rules.specs.Arithmetic.{Add, Sub, summed, multiplied}
+use Rattle.rules.specs.Arithmetic.{ops}
 use Rattle.rules.specs.Formula.{Token, number, kind, unary, binary, unreadable, exact, inexact, absolute, combined, compared}
 
 -- "reduced first"
@@ -20,23 +19,7 @@ exponentAt s p = F.lowest (I.twos 2147483648 (le4 s (p + 4))) (le4 s (p + 8))
 
 -- "Codes: 0 number, 1 kind, 2 Add, 3 Sub, 4 Mul, 5 Div, 6 Dot, 7 Wedge, 8 exact power, 9 inexact power, 10 absolute, 11 compare."
 unfoldable pub tokenBy : ℕ → ℕ → Rational → Token
-tokenBy code index e =
-    getD
-    (number
-    ∷ kind index
-    ∷ binary (combined (summed Add))
-    ∷ binary (combined (summed Sub))
-    ∷ binary (combined (multiplied Mul))
-    ∷ binary (combined (multiplied Div))
-    ∷ binary (combined (multiplied Dot))
-    ∷ binary (combined (multiplied Wedge))
-    ∷ unary (exact e)
-    ∷ unary inexact
-    ∷ unary absolute
-    ∷ binary compared
-    ∷ [])
-    code
-    unreadable
+tokenBy code index e = getD (number ∷ kind index ∷ map (λ op. binary (combined op)) ops ++ (unary (exact e) ∷ unary inexact ∷ unary absolute ∷ binary compared ∷ [])) code unreadable
 
 -- "Fields a code doesn't use are zero."
 unfoldable pub unusedZero : List ℕ → ℕ → Bool

@@ -14,7 +14,7 @@ use Rattle.dimension.specs.declared.dimensions.Dimensions.{Dimensions}
 use Rattle.dimension.specs.declared.grade.ProductOp.the-variants.{Mul, Div, Dot, Wedge}
 use Rattle.rules.specs.Kinds.{fits, carries}
 use Rattle.rules.specs.Refusal.{Answer, Told, told}
-use Rattle.rules.specs.Arithmetic.{Add, Sub, Op, summed, multiplied, resolved, graded, gradeBy, joined, derive, neutralBy, neutral, ratedBy, rated, resolve, product, sumBy, sum, flat, raised, power, scaled, combine}
+use Rattle.rules.specs.Arithmetic.{Add, Sub, Op, summed, multiplied, operand, graded, gradeBy, joined, derive, neutralBy, neutral, ratedBy, rated, resolve, product, sumBy, sum, neutralPower, raised, power, scaled, combine}
 use Rattle.teaching.specs.Listed.{bases, listed, teaching, noRows}
 
 -- what a lookup says: a kind, or 01's number with dimensions, values and twin list
@@ -61,5 +61,5 @@ cases =
     ∷ []
 
 pub answered-so : map (λ (c : Case). reply (c .asked)) cases ≡ map (λ (c : Case). c .answered) cases
-unfolding teaching listed combine product derive resolved graded gradeBy joined neutral neutralBy rated ratedBy resolve fits carries picked sum sumBy power scaled raised flat told D.product D.quotient D.power D.outcome D.equal G.product F.sum F.difference F.product F.answer F.limited F.within F.lowest F.equal F.isOne F.isZero gcd euclid zipWith
+unfolding teaching listed combine product derive operand graded gradeBy joined neutral neutralBy rated ratedBy resolve fits carries picked sum sumBy power scaled raised neutralPower told D.product D.quotient D.power D.outcome D.equal G.product F.sum F.difference F.product F.answer F.limited F.within F.lowest F.equal F.isOne F.isZero gcd euclid zipWith
 answered-so = refl

@@ -15,12 +15,12 @@ use Rattle.dimension.specs.Gcd.{gcd, euclid}
 use Rattle.dimension.specs.Fraction as F
 use Rattle.dimension.specs.Dimension as D
 use Rattle.rules.specs.Kinds.{carries}
-use Rattle.rules.specs.Arithmetic.{resolved}
+use Rattle.rules.specs.Arithmetic.{operand}
 use Rattle.rules.specs.Bytes.{le2, le4, blockSum}
-use Rattle.rules.specs.Layout.{filled, idWrong, headerWrong, idsWrong, exponentWrong, kindWrong, rowWrong, headWrong, spareWrong, blockWrong, byteWrong}
+use Rattle.rules.specs.Layout.{filled, idWrong, headerWrong, idsWrong, exponentWrong, kindWrong, rowWrong, blockHeadWrong, spareWrong, blockWrong, byteWrong}
 use Rattle.laws.proofs.Below.{below-past}
-use Rattle.rules.specs.Catalog.{noKind, blank, same, idAt, exponentAt, dimsAt, kindFrom, catalogIn, find, link, differenceOf, targetOf, rateAmong, isDifference, kindsOf, rowAmong, rowsOf}
-use Rattle.rules.specs.Compile.{Compiled, called, idRule, differenceRule, linear, dimensionlessRule, timeRule, rateRule, compiles, compile}
+use Rattle.rules.specs.Catalog.{noKind, blank, same, idAt, exponentAt, dimsAt, kindFrom, catalogIn, find, link, differenceOf, targetOf, rateAmong, isDifference, role, kindsOf, rowAmong, rowsOf}
+use Rattle.rules.specs.Compile.{Compiled, called, idRule, differenceRule, dimensionlessRule, timeRule, rateRule, compiles, compile}
 use Rattle.rules.specs.Image.{lengthWrong, lengthCheck, roomCheck, sumWrong, blocksCheck, schemaCheck, layoutCheck, readable, compileImage}
 use Rattle.teaching.specs.Listed.{Listed, unlisted, listed, teaching, noRows}
 use Rattle.teaching.specs.Image.{image}
@@ -31,7 +31,7 @@ unfolding blocksCheck sumWrong blockSum sum le2 le4 first image
 blocks-right = refl
 
 pub layout-right : layoutCheck image ≡ given tt
-unfolding layoutCheck byteWrong blockWrong headerWrong kindWrong rowWrong idsWrong idWrong exponentWrong headWrong spareWrong filled le2 first image
+unfolding layoutCheck byteWrong blockWrong headerWrong kindWrong rowWrong idsWrong idWrong exponentWrong blockHeadWrong spareWrong filled le2 first image
 layout-right = refl
 
 pub image-readable : readable image ≡ given tt
@@ -40,7 +40,7 @@ image-readable = rw (blocks-right, layout-right)
 
 -- ---- 10 to 27
 pub rules-kept : compiles (catalogIn image) ≡ given tt
-unfolding compiles each idRule differenceRule linear dimensionlessRule timeRule rateRule carries called blank same find link rateAmong isDifference kindsOf below resolved catalogIn kindFrom dimsAt exponentAt idAt tab first le2 image D.product D.outcome D.equal F.sum F.answer F.limited F.within F.lowest F.equal gcd euclid zipWith
+unfolding compiles each idRule differenceRule role dimensionlessRule timeRule rateRule carries called blank same find link rateAmong isDifference kindsOf below operand catalogIn kindFrom dimsAt exponentAt idAt tab first le2 image D.product D.outcome D.equal F.sum F.answer F.limited F.within F.lowest F.equal gcd euclid zipWith
 rules-kept = refl
 
 -- ---- what is declared, kind by kind, is what is listed

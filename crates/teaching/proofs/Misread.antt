@@ -16,10 +16,10 @@ use Rattle.dimension.specs.Grade as G
 use Rattle.dimension.specs.declared.rational.Rational.{Rational}
 use Rattle.dimension.specs.declared.grade.ProductOp.{ProductOp}
 use Rattle.dimension.specs.declared.grade.ProductOp.the-variants.{Mul, Div}
-use Rattle.rules.specs.Kinds.{Kinds, Rows, Graded, point, fits, carries}
+use Rattle.rules.specs.Kinds.{Kinds, Rows, Graded, sameOp, point, fits, carries}
 use Rattle.rules.specs.Refusal.{Answer, UnresolvedDimensions, UnresolvedTwin, NoProductKind, CommutativeQuotient, Unknown, UnsupportedOperation, absent}
-use Rattle.rules.specs.Arithmetic.{resolved, graded, gradeBy, joined, derive, neutralBy, neutral, ratedBy, rated, fitting, first-of, settle, resolve, product, raised, power, scaled}
-use Rattle.rules.specs.Catalog.{Catalog, noKind, sameOp, find}
+use Rattle.rules.specs.Arithmetic.{operand, graded, gradeBy, joined, derive, neutralBy, neutral, ratedBy, rated, fitting, orFitting, settle, resolve, product, raised, power, scaled}
+use Rattle.rules.specs.Catalog.{Catalog, noKind, find}
 use Rattle.rules.specs.Compile.{Checked, called, rowRule}
 use Rattle.teaching.specs.Listed.{unlisted, kindsBy, bases, listed, teaching, noRows}
 
@@ -27,7 +27,7 @@ use Rattle.teaching.specs.Listed.{unlisted, kindsBy, bases, listed, teac
 earlyPower : Kinds → ℕ → Rational → Answer ℕ
 earlyPower K k e = do
   refuseIf (point K k) (UnsupportedOperation 8 k absent)
-  a ← resolved K k
+  a ← operand K k
   cond (F.isOne e) (given k) (raised K k e)
 
 -- one kind, unresolved
@@ -39,21 +39,21 @@ unfolding power scaled F.isOne
 power-right = refl
 
 power-wrong : earlyPower unresolved 0 F.one ≡ refused (UnresolvedDimensions 0)
-unfolding earlyPower resolved
+unfolding earlyPower operand
 power-wrong = refl
 
 -- ---- "trying the single fit before the rate, so 2×4 becomes a twin"
 lateRate : Kinds → Rows → ℕ → ProductOp → ℕ → Answer ℕ
 lateRate K rows l op r = do
   x ← derive K l op r
-  settle (first-of (neutral K l op r) (fitting (picked (fits K x) (K .count)))) (NoProductKind x) (λ ks. known (rows l op r) (refused (UnresolvedTwin l op r ks)))
+  settle (orFitting K (neutral K l op r) x) (NoProductKind x) (λ ks. known (rows l op r) (refused (UnresolvedTwin l op r ks)))
 
 rate-right : product teaching noRows 2 Mul 4 ≡ given 1
-unfolding teaching listed product derive resolved graded gradeBy joined neutral neutralBy rated ratedBy resolve fits carries picked D.product D.outcome D.equal G.product F.sum F.answer F.limited F.within F.lowest F.equal gcd euclid zipWith
+unfolding teaching listed product derive operand graded gradeBy joined neutral neutralBy rated ratedBy resolve fits carries picked D.product D.outcome D.equal G.product F.sum F.answer F.limited F.within F.lowest F.equal gcd euclid zipWith
 rate-right = refl
 
 rate-wrong : lateRate teaching noRows 2 Mul 4 ≡ refused (UnresolvedTwin 2 Mul 4 (1 ∷ 5 ∷ []))
-unfolding lateRate teaching listed derive resolved graded gradeBy joined neutral neutralBy fits carries picked D.product D.outcome D.equal G.product F.sum F.answer F.limited F.within F.lowest F.equal gcd euclid zipWith
+unfolding lateRate teaching listed derive operand graded gradeBy joined neutral neutralBy fits carries picked D.product D.outcome D.equal G.product F.sum F.answer F.limited F.within F.lowest F.equal gcd euclid zipWith
 rate-wrong = refl
 
 -- ---- "looking up ids before 22"
@@ -98,5 +98,5 @@ unfolding teaching listed fitsPoint picked D.equal F.equal
 fit-wrong = refl
 
 product-right : product teaching noRows 1 Div 2 ≡ given 4
-unfolding teaching listed product derive resolved graded gradeBy joined neutral neutralBy rated ratedBy resolve fits carries picked D.quotient D.outcome D.equal G.product F.difference F.answer F.limited F.within F.lowest F.equal gcd euclid zipWith
+unfolding teaching listed product derive operand graded gradeBy joined neutral neutralBy rated ratedBy resolve fits carries picked D.quotient D.outcome D.equal G.product F.difference F.answer F.limited F.within F.lowest F.equal gcd euclid zipWith
 product-right = refl

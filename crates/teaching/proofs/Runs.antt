@@ -13,7 +13,7 @@ use Rattle.dimension.specs.Grade as G
 use Rattle.dimension.specs.declared.grade.ProductOp.the-variants.{Mul}
 use Rattle.rules.specs.Kinds.{fits, carries}
 use Rattle.rules.specs.Refusal.{Placed, DerivedOperationRule, UnresolvedTwin, told}
-use Rattle.rules.specs.Arithmetic.{resolved, graded, gradeBy, joined, derive, neutralBy, neutral, ratedBy, rated, resolve, product, combine, indexed}
+use Rattle.rules.specs.Arithmetic.{operand, graded, gradeBy, joined, derive, neutralBy, neutral, ratedBy, rated, resolve, product, combine, indexed}
 use Rattle.rules.specs.Bytes.{le2, le4, blockSum}
 use Rattle.rules.specs.Catalog.{Catalog, blank, same, idAt, exponentAt, dimsAt, kindFrom, catalogIn, find, link, rateAmong, kindsOf}
 use Rattle.rules.specs.Compile.{called, rowRule}
@@ -49,7 +49,7 @@ withRow = record {
 }
 
 row-derived : rowRule withRow 0 ≡ refused (DerivedOperationRule 1)
-unfolding rowRule called find first same blank link kindsOf below rateAmong resolved derive graded gradeBy joined resolve neutral neutralBy rated ratedBy fits carries picked catalogIn kindFrom dimsAt exponentAt idAt tab le2 image D.product D.outcome D.equal G.product F.sum F.answer F.limited F.within F.lowest F.equal gcd euclid zipWith
+unfolding rowRule called find first same blank link kindsOf below rateAmong operand derive graded gradeBy joined resolve neutral neutralBy rated ratedBy fits carries picked catalogIn kindFrom dimsAt exponentAt idAt tab le2 image D.product D.outcome D.equal G.product F.sum F.answer F.limited F.within F.lowest F.equal gcd euclid zipWith
 row-derived = refl
 
 -- "Tokens kind 6, kind 7, Mul over this catalog print `refused 44 2` and a newline, nothing else."
@@ -60,7 +60,7 @@ tokens =
     ++ (4 ∷ replicate 11 0)
 
 twins-at : formulaIn teaching noRows tokens ≡ refused (record { place = 2; refusal = UnresolvedTwin 6 Mul 7 (1 ∷ 5 ∷ []) })
-unfolding formulaIn formula goodLength tokensIn tokenAt tokenBy unusedZero token.exponentAt le2 le4 malformedAt walk shape terms kindTerm indexed binaryTerm twoKinds combine product derive resolved graded gradeBy joined neutral neutralBy rated ratedBy resolve fits carries picked teaching listed tab D.product D.outcome D.equal G.product F.sum F.answer F.limited F.within F.lowest F.equal gcd euclid zipWith
+unfolding formulaIn formula goodLength tokensIn tokenAt tokenBy unusedZero token.exponentAt le2 le4 malformedAt walk shape terms kindTerm indexed binaryTerm twoKinds combine product derive operand graded gradeBy joined neutral neutralBy rated ratedBy resolve fits carries picked teaching listed tab D.product D.outcome D.equal G.product F.sum F.answer F.limited F.within F.lowest F.equal gcd euclid zipWith
 twins-at = refl
 
 checked-so : checked image tokens ≡ refused (record { place = 2; refusal = UnresolvedTwin 6 Mul 7 (1 ∷ 5 ∷ []) })
