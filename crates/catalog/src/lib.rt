@@ -1,9 +1,21 @@
-// The catalog image: its bytes, its block sums, its layout. Every byte sequence is answered.
-mod blocks;
-mod bytes;
-mod image;
-mod layout;
+// What a catalog image declares, record by record. A record and an id are named by their place, the byte with which they begin; every place is
+// answered, and what lies past the end is 0.
+mod fields;
+mod ids;
+mod records;
 
-pub use image::Checked;
-pub use image::check_image;
-pub use image::length_wrong;
+pub use fields::dims_at;
+pub use fields::grade_at;
+pub use fields::is_commutative;
+pub use fields::is_given;
+pub use fields::op_at;
+pub use ids::blank_at;
+pub use ids::find_at;
+pub use ids::link_at;
+pub use ids::same_at;
+pub use records::DIMENSIONLESS;
+pub use records::TIME;
+pub use records::kind_count;
+pub use records::kind_place;
+pub use records::row_count;
+pub use records::row_place;

@@ -33,3 +33,11 @@ twos-size half x h = go (decLe half x)
     go : Dec (half ≤ x) → natAbs (twos half x) ≤ half
     go (no f) = rw (← twos-low half x (omega arith)) (omega arith)
     go (yes f) = rw (← twos-high half x (half + half - suc x) f (omega arith)) (omega arith)
+
+-- and fits in a signed number of 32 bits
+pub twos-fits : (half x : ℕ) → half ≤ 2147483648 → x < half + half → SFits w32 (twos half x)
+twos-fits half x l h = go (decLe half x)
+  where
+    go : Dec (half ≤ x) → SFits w32 (twos half x)
+    go (no f) = rw (← twos-low half x (omega arith)) (record { sfits = omega arith })
+    go (yes f) = rw (← twos-high half x (half + half - suc x) f (omega arith)) (record { sfits = omega arith })

@@ -16,7 +16,7 @@ use Rattle.error.specs.declared.cause.Error.the-variants as code
 use Rattle.error.specs.declared.cause.Said.{Said}
 use Rattle.error.specs.declared.answer.Answer.{Answer}
 use Rattle.error.specs.declared.answer.Verdict.{Verdict}
-use Rattle.error.specs.declared.answer.Verdict.the-variants.{Refused}
+use Rattle.error.specs.declared.answer.Verdict.the-variants.{Fine, Refused}
 use Rattle.error.specs.declared.answer.Link.{Link}
 use Rattle.error.specs.declared.answer.Link.the-variants.{To, Nowhere}
 
@@ -68,10 +68,14 @@ abbrev pub answer : Verdict → ℕ → Dimensions → Answer
 answer v p d = record { verdict = v; place = p; dims = d }
 
 module _ {A : Type 0} where
-  -- what is answered, where `given` says how an A is told; or the refusal, its place and its dimensions
+  -- what is answered, where `tell` says how an A is told; or the refusal, its place and its dimensions
   abbrev pub shown : (A → Verdict) → Placed A → Answer
   shown tell (given a) = answer (tell a) 0 D.one
   shown tell (refused x) = answer (Refused (errorOf (x .refusal))) (x .place) (besides (x .refusal))
+
+-- what a check tells
+unfoldable pub fine : Placed (Unit {0}) → Answer
+fine m = shown (λ u. Fine) m
 
 -- the index of a kind, or none
 abbrev pub linked : Option ℕ → Link

@@ -10,6 +10,8 @@ use Rattle.dimension.specs.Integer as I
 use Rattle.dimension.specs.Fraction as F
 use Rattle.dimension.specs.Dimension as D
 use Rattle.dimension.specs.declared.rational.Rational.{Rational}
+use Rattle.dimension.specs.declared.rational.Ratio.{Ratio}
+use Rattle.dimension.specs.declared.rational.Ratio.the-variants.{Is, Over}
 use Rattle.dimension.specs.declared.dimensions.Dimensions.{Dimensions}
 use Rattle.dimension.specs.declared.grade.ProductOp.{ProductOp}
 use Rattle.rules.specs.Kinds.{Kinds, Rows, opOf, sameOp}
@@ -58,9 +60,14 @@ pub record Catalog : Type 0 where
 unfoldable pub idAt : List ℕ → ℕ → Id
 idAt s p = tab (λ i. byte s (p + i)) 32
 
+abbrev pub orZero : Ratio → Rational
+orZero (Is e) = e
+orZero Over = F.zero
+
 -- "signed 16-bit numerator, 16-bit denominator"; "A fraction is reduced on reading (2/4 is 1/2); zero means the base is absent."
+-- What is no fraction (4 refuses it first) reads as absent too.
 unfoldable pub exponentAt : List ℕ → ℕ → Rational
-exponentAt s p = F.lowest (I.twos 32768 (le2 s p)) (le2 s (p + 2))
+exponentAt s p = orZero (F.answer (I.twos 32768 (le2 s p)) (le2 s (p + 2)))
 
 -- "flag at 144 (1 dimensions given; 0 unresolved)"
 unfoldable pub dimsAt : List ℕ → ℕ → Option Dimensions

@@ -57,12 +57,16 @@ imageCheck s = do
   lengthCheck s
   readable s
 
--- `room` is the length of the table lent
-unfoldable pub compileImage : List ℕ → ℕ → Placed Compiled
-compileImage s room = do
+-- 1, 5, 2, 3, 4: `room` is the length of the table lent
+unfoldable pub lentCheck : List ℕ → ℕ → Placed (Unit {0})
+lentCheck s room = do
   lengthCheck s
   roomCheck room
   readable s
+
+unfoldable pub compileImage : List ℕ → ℕ → Placed Compiled
+compileImage s room = do
+  lentCheck s room
   compile (catalogIn s)
 
 -- "A compilation that succeeds writes the table's first 9,296 words and nothing else"

@@ -21,7 +21,7 @@ use Rattle.rules.specs.Layout.{filled, idWrong, headerWrong, idsWrong, exponent
 use Rattle.laws.proofs.Below.{below-past}
 use Rattle.rules.specs.Catalog.{noKind, blank, same, idAt, exponentAt, dimsAt, kindFrom, catalogIn, find, link, differenceOf, targetOf, rateAmong, isDifference, role, kindsOf, rowAmong, rowsOf}
 use Rattle.rules.specs.Compile.{Compiled, called, idRule, differenceRule, dimensionlessRule, timeRule, rateRule, compiles, compile}
-use Rattle.rules.specs.Image.{lengthWrong, lengthCheck, roomCheck, sumWrong, blocksCheck, schemaCheck, layoutCheck, readable, compileImage}
+use Rattle.rules.specs.Image.{lengthWrong, lengthCheck, roomCheck, sumWrong, blocksCheck, schemaCheck, layoutCheck, readable, lentCheck, compileImage}
 use Rattle.teaching.specs.Listed.{Listed, unlisted, listed, teaching, noRows}
 use Rattle.teaching.specs.Image.{image}
 
@@ -113,5 +113,5 @@ abbrev pub compiled : Compiled
 compiled = record { kinds = teaching; rows = noRows }
 
 pub teaches : compileImage image 9296 ≡ given compiled
-unfolding compileImage compile lengthCheck lengthWrong roomCheck image
+unfolding compileImage lentCheck compile lengthCheck lengthWrong roomCheck image
 teaches = rw (image-readable, rules-kept) (ap (λ (C : Compiled). given C) (λ i. record { kinds = kinds-are i; rows = rows-are i }))

@@ -1,0 +1,2 @@
+-- What is read past the end.
+pub mod Past
