@@ -72,7 +72,7 @@ abbrev Are : {A : Type 0} → (Listed → A) → (ℕ → A) → Type 0
 Are {A} h f = f ≡ (λ k. h (getD listed k unlisted))
 
 dims-are : Are (λ d. d .dims) (λ k. catalogIn image .kind k .dims)
-unfolding listed catalogIn below kindFrom dimsAt exponentAt tab le2 image F.lowest gcd euclid
+unfolding listed catalogIn below kindFrom dimsAt exponentAt tab le2 image F.answer F.limited F.within F.lowest gcd euclid
 dims-are = by-list (λ d. d .dims) _ listed (refl, (refl, (refl, (refl, (refl, (refl, (refl, (refl, (refl, tt))))))))) (λ k h. ap (λ d. d .dims) (past k h))
 
 grades-are : Are (λ d. d .grade) (λ k. catalogIn image .kind k .grade)
