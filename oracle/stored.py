@@ -9,7 +9,7 @@ from oracle.ask import ROOT, Answer, CompiledKind, CompiledRow
 
 ANSWERS = os.path.join(ROOT, "crates", "vectors", "data")
 MAGIC = b"KCA1"
-EXPONENTS, COMPILE, LOOKUPS, FORMULAS = 1, 2, 3, 4
+EXPONENTS, COMPILE, LOOKUPS, FORMULAS, IMAGES = 1, 2, 3, 4, 5
 NUMBER, KIND, REFUSED, COMPILED = 0, 1, 2, 3
 UNKNOWN = NONE = 0xFFFF
 ROLES = ("linear", "point", "difference")

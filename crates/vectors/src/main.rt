@@ -1,5 +1,6 @@
 // The Rust's stored answers (docs/VECTORS.md), asked again of the libraries here: for each file a line that says how many agree, of how many.
 mod exponents;
+mod images;
 mod input;
 
 use input::Tally;
@@ -16,4 +17,5 @@ fn tell(group: &[u8], tally: Tally) {
 
 fn main() {
     tell(b"exponents", exponents::replayed());
+    tell(b"images", images::replayed());
 }
