@@ -81,7 +81,7 @@ linkFine t w = isKind t w || eqb w absent
 unfoldable pub headFine : List ℕ → Bool
 headFine t = leb (word t 0) 240 && leb (word t 1) 400 && linkFine t (word t 2) && linkFine t (word t 3)
 
--- the kind whose words begin at p, of n: flag, grade, role; difference exactly for a point (role 1), rate-of, rate; a given dimension's exponents
+-- the kind whose words begin at p: flag, grade, role; difference exactly for a point (role 1), rate-of, rate; a given dimension's exponents
 unfoldable pub marksFine : List ℕ → ℕ → Bool
 marksFine t p =
     ltb (word t (p + 24)) 2 && ltb (word t (p + 25)) 4 && ltb (word t (p + 26)) 3

@@ -1,0 +1,122 @@
+-- A derivation in code: what it tells of the rules' (`derivations`), and how early returns meet them, one law a return (`derives`). Assumes
+-- nothing.
+use Prim.Native.Nat.{ℕ}
+use mathlib.Core.Path.{_≡_, refl, sym, _∙_, ap}
+use mathlib.Core.Bool.{Bool, true, false, true≢false, not}
+use mathlib.Core.List.{List, []}
+use mathlib.Core.Option.{Option, some, none}
+use borrow.Author.Tests.{not-true, not-false}
+use Rattle.laws.specs.Options.{found, isSome}
+use Rattle.laws.specs.Out.{given, refused}
+use Rattle.dimension.specs.Dimension as D
+use Rattle.dimension.specs.declared.dimensions.Dimensions.{Dimensions}
+use Rattle.dimension.specs.declared.grade.ProductOp.{ProductOp}
+use Rattle.dimension.specs.declared.grade.Grade.{Grade}
+use Rattle.dimension.specs.declared.grade.Grade.the-variants.{Single, Absent}
+use Rattle.rules.specs.Kinds.{Kinds, Graded, point}
+use Rattle.rules.specs.Refusal.{Refusal, Answer, codeOf, told}
+use Rattle.rules.specs.Arithmetic as rule
+use Rattle.error.specs.Shown.{errorOf, besides}
+use Rattle.error.specs.declared.cause.Error.{Error}
+use Rattle.error.specs.declared.cause.Error.the-variants as cause
+use Rattle.derive.specs.declared.derivation.Ruling.the-variants.{Fine, Refused}
+use Rattle.derive.specs.Shown.{at, dimsAt, derived, givenAs, refusedAs}
+use Rattle.derive.specs.declared.derivation.Derivation.{Derivation}
+
+-- ---- told: v is what a call returned
+module _ {v : Derivation} (m : Answer Graded) where
+  pub fine-told : v .ruling ≡ Fine → v ≡ derived m → m ≡ given (at (v .dims) (v .grade))
+  fine-told p e = go m e
+    where
+      go : (a : Answer Graded) → v ≡ derived a → a ≡ given (at (v .dims) (v .grade))
+      go (given x) q = rw q
+      go (refused x) q = cc
+
+  pub refused-told : {e : Error} → v .ruling ≡ Refused e → v ≡ derived m → (x : Refusal) × (m ≡ refused x) × (e ≡ errorOf x)
+  refused-told {e} p q = go m q
+    where
+      go : (a : Answer Graded) → v ≡ derived a → (x : Refusal) × (a ≡ refused x) × (e ≡ errorOf x)
+      go (given x) z = let y : true ≡ false = cc in absurd (true≢false y)
+      go (refused x) z = (x, refl, cc)
+
+  pub refusal-told : {e : Error} → v ≡ refusedAs e → v ≡ derived m → (x : Refusal) × (m ≡ refused x) × (e ≡ errorOf x)
+  refusal-told p q = refused-told (ap (λ (u : Derivation). u .ruling) p) q
+
+  module _ {x : Graded} (e : v ≡ derived m) (p : m ≡ given x) where
+    pub given-dims : v .dims ≡ x .dims
+    given-dims = ap (λ (u : Derivation). u .dims) e ∙ rw p
+
+    pub given-grade : v .grade ≡ x .grade
+    given-grade = ap (λ (u : Derivation). u .grade) e ∙ rw p
+
+pub ruleset derivations = (fine-told, given-dims, given-grade)
+
+-- ---- met, with what is known of each operand
+is-none : {A : Type 0} (o : Option A) {b : Bool} → b ≡ isSome o → not b ≡ true → o ≡ none
+is-none (some a) {b} e p = let z : b ≡ false = not-true b p in cc
+is-none none e p = refl
+
+is-some : {A : Type 0} (o : Option A) (z : A) {b : Bool} → b ≡ isSome o → not b ≡ false → o ≡ some (found o (λ d. d) z)
+is-some (some a) z e p = refl
+is-some none z {b} e p = let y : b ≡ true = not-false b p in cc
+
+module _ (K : Kinds) (l : ℕ) (op : ProductOp) (r : ℕ) where
+  left-none : K .dims l ≡ none → refusedAs (cause.UnresolvedDimensions l) ≡ derived (rule.derive K l op r)
+  unfolding rule.derive rule.operand
+  left-none p = rw p
+
+  module _ {d : Dimensions} (pl : K .dims l ≡ some d) where
+    right-none : K .dims r ≡ none → refusedAs (cause.UnresolvedDimensions r) ≡ derived (rule.derive K l op r)
+    unfolding rule.derive rule.operand
+    right-none p = rw (pl, p)
+
+    module _ {e : Dimensions} (pr : K .dims r ≡ some e) where
+      left-is-point : point K l ≡ true → refusedAs (cause.Point l (codeOf op) r l) ≡ derived (rule.derive K l op r)
+      unfolding rule.derive rule.operand
+      left-is-point p = rw (pl, pr, p)
+
+      module _ (ql : point K l ≡ false) where
+        right-is-point : point K r ≡ true → refusedAs (cause.Point l (codeOf op) r r) ≡ derived (rule.derive K l op r)
+        unfolding rule.derive rule.operand
+        right-is-point p = rw (pl, pr, ql, p)
+
+        module _ (qr : point K r ≡ false) where
+          no-grade : rule.gradeBy K op (K .grade l) (K .grade r) ≡ Absent → refusedAs (cause.Ungraded l r (K .grade l) (K .grade r)) ≡ derived (rule.derive K l op r)
+          unfolding rule.derive rule.operand rule.graded
+          no-grade p = rw (pl, pr, ql, qr, p)
+
+          one-grade : {g : ℕ} → rule.gradeBy K op (K .grade l) (K .grade r) ≡ Single g → givenAs (rule.joined op d e) g ≡ derived (rule.derive K l op r)
+          unfolding rule.derive rule.operand rule.graded
+          one-grade p = rw (pl, pr, ql, qr, p)
+
+-- ---- met by the code: v is what a return's call returned, a to q what the tests said, w the grade
+module _ (K : Kinds) (l : ℕ) (op : ProductOp) (r : ℕ) {a : Bool} (ea : a ≡ isSome (K .dims l)) where
+  pub left-unresolved : {v : Derivation} → not a ≡ true → v ≡ refusedAs (cause.UnresolvedDimensions l) → v ≡ derived (rule.derive K l op r)
+  left-unresolved fa h = h ∙ left-none K l op r (is-none (K .dims l) ea fa)
+
+  module _ (fa : not a ≡ false) {b : Bool} (eb : b ≡ isSome (K .dims r)) where
+    pl : K .dims l ≡ some (dimsAt K l)
+    pl = is-some (K .dims l) D.one ea fa
+
+    pub right-unresolved : {v : Derivation} → not b ≡ true → v ≡ refusedAs (cause.UnresolvedDimensions r) → v ≡ derived (rule.derive K l op r)
+    right-unresolved fb h = h ∙ right-none K l op r pl (is-none (K .dims r) eb fb)
+
+    module _ (fb : not b ≡ false) {p : Bool} (ep : p ≡ point K l) where
+      pr : K .dims r ≡ some (dimsAt K r)
+      pr = is-some (K .dims r) D.one eb fb
+
+      pub left-point : {v : Derivation} → p ≡ true → v ≡ refusedAs (cause.Point l (codeOf op) r l) → v ≡ derived (rule.derive K l op r)
+      left-point fp h = h ∙ left-is-point K l op r pl pr (sym ep ∙ fp)
+
+      module _ (fp : p ≡ false) {q : Bool} (eq : q ≡ point K r) where
+        pub right-point : {v : Derivation} → q ≡ true → v ≡ refusedAs (cause.Point l (codeOf op) r r) → v ≡ derived (rule.derive K l op r)
+        right-point fq h = h ∙ right-is-point K l op r pl pr (sym ep ∙ fp) (sym eq ∙ fq)
+
+        module _ (fq : q ≡ false) {w : Grade} (ew : w ≡ rule.gradeBy K op (K .grade l) (K .grade r)) where
+          pub ungraded : {v : Derivation} → w ≡ Absent → v ≡ refusedAs (cause.Ungraded l r (K .grade l) (K .grade r)) → v ≡ derived (rule.derive K l op r)
+          ungraded fw h = h ∙ no-grade K l op r pl pr (sym ep ∙ fp) (sym eq ∙ fq) (sym ew ∙ fw)
+
+          pub derives-to : {v : Derivation} {g : ℕ} → w ≡ Single g → v ≡ givenAs (rule.joined op (dimsAt K l) (dimsAt K r)) g → v ≡ derived (rule.derive K l op r)
+          derives-to fw h = h ∙ one-grade K l op r pl pr (sym ep ∙ fp) (sym eq ∙ fq) (sym ew ∙ fw)
+
+pub ruleset derives = (left-unresolved, right-unresolved, left-point, right-point, ungraded, derives-to)

@@ -1,0 +1,11 @@
+-- What crates above may use, beyond the contracts:
+--     Derives      what a derivation tells of the rules', and how code meets it: `derives`, `derivations`
+--     Resolves     what a resolution tells of the rules': `resolutions`
+pub mod Derives
+pub mod Resolves
+-- on the way there
+mod GradeOver
+mod Carried
+mod Seens
+mod Room
+mod Either

@@ -1,0 +1,10 @@
+-- `derive::derivation::joined` meets its contract.
+-- Assumes nothing.
+use borrow.Author.Needs.{needs}
+use Rattle.rules.specs.Arithmetic as rule
+use Rattle.derive.proofs.derivation.joined.Statement.{statement}
+use Rattle.derive.proofs.derivation.joined.Tie as tie
+
+pub joined-spec : {M : Type 1} → statement M
+unfolding rule.joined
+joined-spec = tie.close (tie.spec (search needs) (search needs) (search needs) (search needs) (search needs) (search needs) (search needs) (search needs) (λ c. cc) (λ c. cc) (λ c. cc) (λ c. cc))

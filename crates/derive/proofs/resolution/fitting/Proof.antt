@@ -1,0 +1,9 @@
+-- `derive::resolution::fitting` meets its contract: by how many fit.
+-- Assumes nothing.
+use borrow.Author.Needs.{needs}
+use Rattle.derive.proofs.Seens.{fittings}
+use Rattle.derive.proofs.resolution.fitting.Statement.{statement}
+use Rattle.derive.proofs.resolution.fitting.Tie as tie
+
+pub fitting-spec : {M : Type 1} → statement M
+fitting-spec = tie.close (tie.spec (search needs) (λ c. search (fittings, needs)) (λ c. search (fittings, needs)) (λ c. search (fittings, needs)))

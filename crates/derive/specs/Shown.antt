@@ -1,0 +1,70 @@
+-- What the code's answers show of the rules'.
+use Prim.Native.Nat.{ℕ}
+use mathlib.Core.Bool.{cond}
+use mathlib.Core.List.{List, [], _∷_}
+use mathlib.Core.Option.{Option, some, none}
+use lib.Dec.{ltb}
+use lib.ListN.{length}
+use Rattle.laws.specs.Options.{found}
+use Rattle.laws.specs.Out.{given, refused}
+use Rattle.laws.specs.Ranges.{overlay}
+use Rattle.dimension.specs.Dimension as D
+use Rattle.dimension.specs.declared.dimensions.Dimensions.{Dimensions}
+use Rattle.rules.specs.Kinds.{Kinds, Graded}
+use Rattle.rules.specs.Refusal.{Answer}
+use Rattle.rules.specs.Arithmetic as rule
+use Rattle.error.specs.Shown.{errorOf}
+use Rattle.error.specs.declared.cause.Error.{Error}
+use Rattle.derive.specs.declared.derivation.Ruling.the-variants.{Fine, Refused}
+use Rattle.error.specs.declared.answer.Link.{Link}
+use Rattle.error.specs.declared.answer.Link.the-variants.{To, Nowhere}
+use Rattle.derive.specs.declared.derivation.Derivation.{Derivation}
+use Rattle.derive.specs.declared.fits.Seen.{Seen}
+use Rattle.derive.specs.declared.resolution.Resolved.{Resolved}
+use Rattle.derive.specs.declared.resolution.Resolved.the-variants.{Is, Twins, Nothing}
+
+-- dimensions at a grade
+abbrev pub at : Dimensions → ℕ → Graded
+at d g = record { dims = d; grade = g }
+
+-- the dimensions of a kind, dimension one where they are unresolved
+abbrev pub dimsAt : Kinds → ℕ → Dimensions
+dimsAt K k = found (K .dims k) (λ d. d) D.one
+
+-- ---- a derivation
+abbrev pub givenAs : Dimensions → ℕ → Derivation
+givenAs d g = record { ruling = Fine; dims = d; grade = g }
+
+abbrev pub refusedAs : Error → Derivation
+refusedAs e = record { ruling = Refused e; dims = D.one; grade = 0 }
+
+abbrev pub derived : Answer Graded → Derivation
+derived (given x) = givenAs (x .dims) (x .grade)
+derived (refused x) = refusedAs (errorOf x)
+
+-- ---- kinds that fit: how many, and the last of them
+abbrev pub lastOf : List ℕ → ℕ
+lastOf [] = 0
+lastOf (k ∷ []) = k
+lastOf (k ∷ m ∷ l) = lastOf (m ∷ l)
+
+abbrev pub seen : List ℕ → Seen
+seen l = record { count = length l; last = lastOf l }
+
+-- a lent list with these in front
+abbrev pub listed : List ℕ → List ℕ → List ℕ
+listed ks old = overlay ks old
+
+-- where there is room for any number of kinds
+unfoldable pub roomListed : List ℕ → List ℕ → List ℕ
+roomListed ks old = cond (ltb (length old) 240) old (listed ks old)
+
+-- ---- a resolution
+abbrev pub resolved : rule.Resolved → Resolved
+resolved (rule.is k) = Is k
+resolved (rule.twins ks) = Twins (length ks)
+resolved rule.nothing = Nothing
+
+abbrev pub unlinked : Link → Option ℕ
+unlinked (To k) = some k
+unlinked Nowhere = none

@@ -1,0 +1,99 @@
+-- A power's answer: one law a return. Assumes nothing.
+use Prim.Native.Nat.{ℕ}
+use mathlib.Core.Path.{_≡_, refl, sym, _∙_, ap}
+use mathlib.Core.Bool.{Bool, true, false, not}
+use mathlib.Core.Option.{Option, some, none}
+use borrow.Author.Tests.{eq-eqb, ne-eqb, not-true, not-false}
+use lib.ListN.{length}
+use Rattle.laws.specs.Options.{found, isSome}
+use Rattle.laws.specs.Out.{given, refused}
+use Rattle.dimension.specs.Fraction as F
+use Rattle.dimension.specs.Dimension as D
+use Rattle.dimension.specs.declared.rational.Rational.{Rational}
+use Rattle.dimension.specs.declared.dimensions.Dimensions.{Dimensions}
+use Rattle.dimension.specs.declared.dimensions.Outcome.{Outcome}
+use Rattle.rules.specs.Kinds.{Kinds, point, candidates}
+use Rattle.rules.specs.Refusal.{told}
+use Rattle.rules.specs.Arithmetic as rule
+use Rattle.error.specs.Shown.{answer, linked}
+use Rattle.error.specs.declared.answer.Answer.{Answer}
+use Rattle.error.specs.declared.answer.Verdict.the-variants.{Refused}
+use Rattle.error.specs.declared.answer.Link.{Link}
+use Rattle.error.specs.declared.cause.Error.the-variants as cause
+use Rattle.derive.specs.Shown.{at, dimsAt, resolved, unlinked}
+use Rattle.derive.specs.declared.resolution.Resolved.{Resolved}
+use Rattle.derive.specs.declared.resolution.Resolved.the-variants.{Is, Twins, Nothing}
+use Rattle.derive.proofs.Resolves.{unlinked-linked, is-told, nothing-told, fitting-told}
+use Rattle.registry.specs.Shown.{looked, kindAs, no, raisedAs, overAs}
+
+is-none : (a : Option Dimensions) {b : Bool} → b ≡ isSome a → not b ≡ true → a ≡ none
+is-none (some x) {b} t p = let z : b ≡ false = not-true b p in cc
+is-none none t p = refl
+
+is-some : (a : Option Dimensions) {b : Bool} → b ≡ isSome a → not b ≡ false → a ≡ some (found a (λ d. d) D.one)
+is-some (some x) t p = refl
+is-some none {b} t p = let z : b ≡ true = not-false b p in cc
+
+-- what is known is what the rules know
+as-known : (K : Kinds) (o : Option ℕ) (d : Dimensions) {u : Link} {w : Resolved} → u ≡ linked o → w ≡ resolved (rule.orFitting K (unlinked u) (at d 0)) → w ≡ resolved (rule.orFitting K o (at d 0))
+as-known K o d q f = f ∙ ap (λ (x : Option ℕ). resolved (rule.orFitting K x (at d 0))) (ap unlinked q ∙ unlinked-linked o)
+
+module _ (K : Kinds) (k : ℕ) (e : Rational) {v : Answer} where
+  -- ---- the kind of these dimensions: u is what is known, w what it comes to
+  module _ (d : Dimensions) {u : Link} (q : u ≡ linked (rule.neutralPower K k e)) {w : Resolved} (f : w ≡ resolved (rule.orFitting K (unlinked u) (at d 0))) where
+    pub raised-is : {m : ℕ} → w ≡ Is m → v ≡ kindAs m → v ≡ looked (raisedAs K k e d)
+    unfolding looked
+    raised-is p h = rw (is-told (rule.orFitting K (rule.neutralPower K k e) (at d 0)) p (as-known K (rule.neutralPower K k e) d q f)) h
+
+    pub raised-several : {n : ℕ} → w ≡ Twins n → v ≡ no (cause.UnresolvedPowerTwin k (e .num) (e .den) n) → v ≡ looked (raisedAs K k e d)
+    unfolding looked told
+    raised-several {n} p h = let s = fitting-told K (rule.neutralPower K k e) (at d 0) p (as-known K (rule.neutralPower K k e) d q f) in rw (s .0, ← s .1) h
+
+    pub raised-none : w ≡ Nothing → v ≡ answer (Refused cause.NoPowerKind) 0 d → v ≡ looked (raisedAs K k e d)
+    unfolding looked told
+    raised-none p h = rw (nothing-told (rule.orFitting K (rule.neutralPower K k e) (at d 0)) p (as-known K (rule.neutralPower K k e) d q f)) h
+
+  -- ---- 28
+  module _ (d : Dimensions) {o : Outcome} (f : o ≡ D.power d e) where
+    pub power-over : o .over ≡ true → v ≡ no (cause.PowerOverLimits k) → v ≡ looked (overAs K k e d)
+    unfolding looked told
+    power-over p h = rw (← f, p) h
+
+    pub power-within : o .over ≡ false → v ≡ looked (raisedAs K k e (o .value)) → v ≡ looked (overAs K k e d)
+    power-within p h = rw (← f, p) h
+
+  -- ---- 46, 19
+  module _ {g : ℕ} (f : g ≡ K .grade k) where
+    pub raised-graded : (g ≡ 0 → ⊥) → v ≡ no (cause.UngradedPower g) → v ≡ looked (rule.raised K k e)
+    unfolding looked told rule.raised
+    raised-graded p h = rw (← f, ne-eqb g 0 p) h
+
+    module _ (z : g ≡ 0) {b : Bool} (r : b ≡ isSome (K .dims k)) where
+      pub raised-unresolved : not b ≡ true → v ≡ no (cause.UnresolvedDimensions k) → v ≡ looked (rule.raised K k e)
+      unfolding looked told rule.raised rule.operand
+      raised-unresolved p h = rw (← f, eq-eqb g 0 z, is-none (K .dims k) r p) h
+
+      pub raised-resolved : not b ≡ false → {d : Dimensions} → d ≡ dimsAt K k → v ≡ looked (overAs K k e d) → v ≡ looked (rule.raised K k e)
+      unfolding rule.raised rule.operand
+      raised-resolved p q h = rw (← f, eq-eqb g 0 z, is-some (K .dims k) r p, ← q) h
+
+  -- ---- 43, one
+  module _ (code : ℕ) {b : Bool} (f : b ≡ point K k) where
+    pub power-point : b ≡ true → v ≡ no (cause.UnsupportedOperation code k 65535) → v ≡ looked (rule.power K code k (some e))
+    unfolding looked told rule.power rule.scaled
+    power-point p h = rw (← f, p) h
+
+    module _ (p : b ≡ false) {c : Bool} (q : c ≡ F.isOne e) where
+      pub power-one : c ≡ true → v ≡ kindAs k → v ≡ looked (rule.power K code k (some e))
+      unfolding looked rule.power rule.scaled
+      power-one t h = rw (← f, p, ← q, t) h
+
+      pub power-raised : c ≡ false → v ≡ looked (rule.raised K k e) → v ≡ looked (rule.power K code k (some e))
+      unfolding rule.power rule.scaled
+      power-raised t h = rw (← f, p, ← q, t) h
+
+pub power-inexact : (K : Kinds) (code k : ℕ) {v : Answer} → v ≡ no (cause.UnsupportedOperation code k 65535) → v ≡ looked (rule.power K code k none)
+unfolding looked told rule.power
+power-inexact K code k h = h
+
+pub ruleset powers = (raised-is, raised-several, raised-none, power-over, power-within, raised-graded, raised-unresolved, raised-resolved, power-point, power-one, power-raised, power-inexact)

@@ -1,0 +1,42 @@
+-- `table::fine::exponents_fine` meets its contract: one after the other.
+-- Assumes nothing.
+use borrow.Author.Needs.{needs}
+use Prim.Native.Nat.{_≤_, _-_}
+use mathlib.Core.Path.{_≡_, _∙_, ap}
+use mathlib.Core.Bool.{true}
+use borrow.Author.Tests.{not-true, not-false}
+use Rattle.laws.proofs.Cases.{cases}
+use Rattle.laws.specs.Ranges.{all}
+use Rattle.laws.proofs.All.{alls}
+use Rattle.dimension.specs.Fraction as F
+use Rattle.rules.specs.Table as T
+use Rattle.table.proofs.fine.exponents_fine.Statement.{statement}
+use Rattle.table.proofs.fine.exponents_fine.Tie as tie
+
+abbrev Inv-loop : tie.InvT-loop
+Inv-loop t p b₀ b = (b ≤ 12) × (all (λ b. F.declared (T.exponentFrom t p b)) b ≡ true)
+
+abbrev μ-loop : tie.MeasureT-loop
+μ-loop t p b₀ b = 12 - b
+
+returns : tie.Need-returns Inv-loop μ-loop
+unfolding T.exponentsFine
+returns c = search (cases, needs)
+
+returns-2 : tie.Need-returns-2 Inv-loop μ-loop
+unfolding T.exponentsFine
+returns-2 c =
+    let e = c .before .declared .ensures ∙ ap F.declared (c .before .before .exponent .ensures) in
+    search (cases, alls, not-true, e, needs) depth 7
+
+loop-again : tie.Need-loop-again Inv-loop μ-loop
+loop-again c =
+    let e = c .before .declared .ensures ∙ ap F.declared (c .before .before .exponent .ensures) in
+    search (alls, not-false, e, needs)
+
+returns-3 : tie.Need-returns-3 Inv-loop μ-loop
+unfolding T.exponentsFine
+returns-3 c = search (cases, alls, needs) depth 7
+
+pub exponents-fine-spec : {M : Type 1} → statement M
+exponents-fine-spec = tie.close (tie.spec Inv-loop μ-loop (search needs) (search needs) returns (λ c. search (alls, needs)) (search needs) (search needs) returns-2 (search needs) (search needs) loop-again returns-3)

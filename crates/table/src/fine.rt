@@ -1,0 +1,140 @@
+// Which words are a table (document 01's 40): counts, indexes, roles, grades and declared exponents in their ranges.
+use crate::words::exponent;
+use crate::words::word;
+ghost use mathlib.Core.Path.{_≡_};
+ghost use mathlib.Core.Bool.{cond, _||_};
+ghost use Prim.Native.Nat.{_+_, _*_, _<_, _≤_};
+ghost use lib.Dec.{eqb, ltb};
+ghost use Rattle.laws.specs.Ranges.{all};
+ghost use Rattle.rules.specs.Table as T;
+
+// The index of one of n kinds, or none.
+fn link_fine(w: u32, n: u32) -> bool
+    ensures { λ r. ⌜ r ≡ (ltb w n || eqb w 65535) ⌝ }
+{
+    (w < n) | (w == 65535)
+}
+
+// The counts, and the dimensionless and the time kind.
+fn head_fine(t: &[u32]) -> bool
+    ensures { λ r. ⌜ r ≡ T.headFine (now (t .entry)) ⌝ }
+{
+    let n = word(t, 0);
+    (n <= 240) & (word(t, 1) <= 400) & link_fine(word(t, 2), n) & link_fine(word(t, 3), n)
+}
+
+// A point's difference is a kind; no other has one.
+fn role_fine(role: u32, difference: u32, n: u32) -> bool
+    ensures { λ r. ⌜ r ≡ cond (eqb role 1) (ltb difference n) (eqb difference 65535) ⌝ }
+{
+    if role == 1 {
+        return difference < n;
+    }
+    difference == 65535
+}
+
+// Flag, grade, role and links of the kind whose words begin at p.
+fn marks_fine(t: &[u32], p: usize) -> bool
+    requires { ⌜ p < 4294967296 ⌝ }
+    ensures { λ r. ⌜ r ≡ T.marksFine (now (t .entry)) p ⌝ }
+{
+    let n = word(t, 0);
+    let role = word(t, p + 26);
+    (word(t, p + 24) < 2)
+        & (word(t, p + 25) < 4)
+        & (role < 3)
+        & role_fine(role, word(t, p + 27), n)
+        & link_fine(word(t, p + 28), n)
+        & link_fine(word(t, p + 29), n)
+}
+
+// The exponents of a kind whose dimensions are given.
+fn exponents_fine(t: &[u32], p: usize) -> bool
+    requires { ⌜ p < 4294967296 ⌝ }
+    ensures { λ r. ⌜ r ≡ T.exponentsFine (now (t .entry)) p ⌝ }
+{
+    if word(t, p + 24) != 1 {
+        return true;
+    }
+    let mut b: usize = 0;
+    while b < 12 {
+        if !exponent(t, p, b).declared() {
+            return false;
+        }
+        b += 1;
+    }
+    true
+}
+
+fn kind_fine(t: &[u32], k: usize) -> bool
+    requires { ⌜ k < 240 ⌝ }
+    ensures { λ r. ⌜ r ≡ T.kindFine (now (t .entry)) k ⌝ }
+{
+    let p = 16 + 32 * k;
+    if !marks_fine(t, p) {
+        return false;
+    }
+    exponents_fine(t, p)
+}
+
+fn kinds_fine(t: &[u32], n: usize) -> bool
+    requires { ⌜ n ≤ 240 ⌝ }
+    ensures { λ r. ⌜ r ≡ all (T.kindFine (now (t .entry))) n ⌝ }
+{
+    let mut k: usize = 0;
+    while k < n {
+        if !kind_fine(t, k) {
+            return false;
+        }
+        k += 1;
+    }
+    true
+}
+
+// The row whose words begin at p of s, over the kinds of t.
+fn row_fine(t: &[u32], s: &[u32], p: usize) -> bool
+    requires { ⌜ p < 9223372036854775808 ⌝ }
+    ensures { λ r. ⌜ r ≡ T.rowFine (now (t .entry)) (now (s .entry)) p ⌝ }
+{
+    let n = word(t, 0);
+    (word(s, p) < n) & (word(s, p + 1) < 4) & (word(s, p + 2) < n) & (word(s, p + 3) < n)
+}
+
+// The m rows of s from place p on, over the kinds of t.
+fn rows_fine(t: &[u32], s: &[u32], p: usize, m: usize) -> bool
+    requires { ⌜ p + 4 * m < 9223372036854775808 ⌝ }
+    ensures { λ r. ⌜ r ≡ all (λ i. T.rowFine (now (t .entry)) (now (s .entry)) (p + 4 * i)) m ⌝ }
+{
+    let mut i: usize = 0;
+    while i < m {
+        if !row_fine(t, s, p + 4 * i) {
+            return false;
+        }
+        i += 1;
+    }
+    true
+}
+
+// Whether the words are a table. The counts come first, so that no more is read than a table has.
+pub fn is_table(t: &[u32]) -> bool
+    ensures { λ r. ⌜ r ≡ T.isTable (now (t .entry)) ⌝ }
+{
+    if !head_fine(t) {
+        return false;
+    }
+    if !kinds_fine(t, word(t, 0) as usize) {
+        return false;
+    }
+    rows_fine(t, t, 7696, word(t, 1) as usize)
+}
+
+// Whether lent words are rows over the table's kinds.
+pub fn are_rows(t: &[u32], rows: &[u32]) -> bool
+    ensures { λ r. ⌜ r ≡ T.areRows (now (t .entry)) (now (rows .entry)) ⌝ }
+{
+    let n = rows.len();
+    if n % 4 != 0 {
+        return false;
+    }
+    rows_fine(t, rows, 0, n / 4)
+}

@@ -1,0 +1,47 @@
+// Rows in force, four words each: left, operation, right, result.
+use crate::words::index_or;
+use crate::words::word;
+use dimension::ProductOp;
+use error::Link;
+ghost use mathlib.Core.Path.{_≡_};
+ghost use Prim.Native.Nat.{_<_};
+ghost use Rattle.rules.specs.Kinds as K;
+ghost use Rattle.rules.specs.Table as T;
+ghost use Rattle.error.specs.Shown.{linked};
+ghost use Rattle.table.specs.Shown.{rowFor};
+
+// The word that an operation has in a row.
+fn op_word(op: ProductOp) -> u32
+    ensures { λ v. ⌜ v ≡ K.opWord op ⌝ }
+{
+    match op {
+        ProductOp::Mul => 0,
+        ProductOp::Div => 1,
+        ProductOp::Dot => 2,
+        ProductOp::Wedge => 3,
+    }
+}
+
+// Whether row i is for that very left, operation and right.
+fn row_for(s: &[u32], l: u16, o: u32, r: u16, i: usize) -> bool
+    requires { ⌜ i < 2305843009213693952 ⌝ }
+    ensures { λ v. ⌜ v ≡ rowFor (now (s .entry)) l o r i ⌝ }
+{
+    (word(s, 4 * i) == l as u32) & (word(s, 4 * i + 1) == o) & (word(s, 4 * i + 2) == r as u32)
+}
+
+// The kind that the first row for a pair names.
+pub fn row_of(rows: &[u32], l: u16, op: ProductOp, r: u16) -> Link
+    ensures { λ v. ⌜ v ≡ linked (T.rowsOf (now (rows .entry)) l op r) ⌝ }
+{
+    let o = op_word(op);
+    let n = rows.len() / 4;
+    let mut i: usize = 0;
+    while i < n {
+        if row_for(rows, l, o, r, i) {
+            return index_or(word(rows, 4 * i + 3));
+        }
+        i += 1;
+    }
+    Link::Nowhere
+}

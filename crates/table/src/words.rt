@@ -1,0 +1,87 @@
+// Words, and the exponents and indexes that they stand for. `word` alone indexes the table.
+use dimension::Dimensions;
+use dimension::Rational;
+use error::Link;
+ghost use mathlib.Core.Path.{_≡_};
+ghost use Prim.Native.Nat.{_<_};
+ghost use Rattle.dimension.specs.Fraction as F;
+ghost use Rattle.dimension.specs.Integer as I;
+ghost use Rattle.rules.specs.Table as T;
+ghost use Rattle.error.specs.Shown.{linked};
+
+pub fn word(t: &[u32], i: usize) -> u32
+    ensures { λ r. ⌜ r ≡ T.word (now (t .entry)) i ⌝ }
+{
+    if i < t.len() { t[i] } else { 0 }
+}
+
+// A word from 65,535 on names no kind; below, it fits 16 bits.
+pub(crate) fn index_or(w: u32) -> Link
+    ensures { λ r. ⌜ r ≡ linked (T.indexOr w) ⌝ }
+{
+    if w < 65535 {
+        return Link::To(w as u16);
+    }
+    Link::Nowhere
+}
+
+// The exponent of base b: the numerator's bits, then the denominator.
+pub(crate) fn exponent(t: &[u32], p: usize, b: usize) -> Rational
+    requires { ⌜ p < 4294967296 ⌝ }
+    requires { ⌜ b < 12 ⌝ }
+    ensures { λ r. ⌜ r ≡ T.exponentFrom (now (t .entry)) p b ⌝ }
+{
+    let num = dimension::signed32(word(t, p + 2 * b));
+    let den = word(t, p + 2 * b + 1);
+    Rational { num, den }
+}
+
+// The twelve exponents from place p on.
+pub(crate) fn dims_from(t: &[u32], p: usize) -> Dimensions
+    requires { ⌜ p < 4294967296 ⌝ }
+    ensures { λ r. ⌜ r ≡ T.dimsFrom (now (t .entry)) p ⌝ }
+{
+    let mut d = Dimensions::one();
+    let mut b: usize = 0;
+    while b < 12 {
+        let x = exponent(t, p, b);
+        d.powers[b] = x;
+        b += 1;
+    }
+    d
+}
+
+// Whether the exponent of base b from place p on is that of w: their words are compared, and no fraction is made of them.
+pub(crate) fn same_pair(t: &[u32], p: usize, w: &[u32], b: usize) -> bool
+    requires { ⌜ p < 4294967296 ⌝ }
+    requires { ⌜ b < 12 ⌝ }
+    ensures { λ r. ⌜ r ≡ F.equal (T.exponentFrom (now (t .entry)) p b) (T.exponentFrom (now (w .entry)) 0 b) ⌝ }
+{
+    let x = word(t, p + 2 * b);
+    let m = word(t, p + 2 * b + 1);
+    let y = word(w, 2 * b);
+    let n = word(w, 2 * b + 1);
+    (x == y) & (m == n)
+}
+
+// The bits that stand for a numerator.
+fn num_word(x: Rational) -> u32
+    ensures { λ r. ⌜ I.twos 2147483648 r ≡ x .num ⌝ }
+{
+    dimension::bits32(x.num)
+}
+
+// The words of d, two for each exponent, as a kind has them.
+pub fn words_of(d: Dimensions) -> [u32; 24]
+    ensures { λ r. ⌜ T.dimsFrom r 0 ≡ d ⌝ }
+{
+    let mut w = [0u32; 24];
+    let mut b: usize = 0;
+    while b < 12 {
+        let x = d.powers[b];
+        w[2 * b] = num_word(x);
+        w[2 * b + 1] = x.den;
+        b += 1;
+    }
+    w
+}
