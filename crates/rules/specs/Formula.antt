@@ -112,7 +112,7 @@ pub data Term : Type 0 where
   Number : Term
   Kind : ℕ → Term
 
-abbrev minusOne : Rational
+abbrev pub minusOne : Rational
 minusOne = F.ratio (negℤ (pos 1)) 1
 
 -- a kind with a number, on either side; `quotient` is what their quotient is
