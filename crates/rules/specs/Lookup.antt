@@ -40,7 +40,7 @@ pub data Exponent : Type 0 where
   exact : ℤ → ℕ → Exponent
   inexact : Exponent
 
-abbrev limited : Ratio → Answer (Option Rational)
+abbrev pub limited : Ratio → Answer (Option Rational)
 limited (Is e) = given (some e)
 limited Over = refused (Malformed 0)
 

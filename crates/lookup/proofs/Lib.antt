@@ -1,0 +1,6 @@
+-- Twins listed, and the order of a lone lookup.
+mod Named
+pub mod Listing
+pub mod Ordered
+pub mod NamedTwins
+pub mod Whole
