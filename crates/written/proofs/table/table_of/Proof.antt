@@ -1,0 +1,15 @@
+-- `written::table::table_of` meets its contract.
+-- Assumes nothing.
+use borrow.Author.Needs.{needs}
+use Rattle.written.proofs.Parts.{table-told}
+use Rattle.written.proofs.table.table_of.Statement.{statement}
+use Rattle.written.proofs.table.table_of.Tie as tie
+
+returns : tie.Need-returns
+returns c =
+    let h = c .before .before .before .before .before in
+    let r = h .before in
+    table-told _ _ _ _ (r .rows-words .result .used) 7680 1600 (r .rows-words .ensures .1 .0) (h .head-words .ensures) (r .before .kinds-words .ensures) (r .rows-words .ensures .0) (c .joined .ensures)
+
+pub table-of-spec : {M : Type 1} → statement M
+table-of-spec = tie.close (tie.spec (search needs) (search needs) (search needs) (search needs) (search needs) (search needs) (search needs) returns)

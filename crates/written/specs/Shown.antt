@@ -1,0 +1,83 @@
+-- The words of an image, and what private functions of the crate compute on the way to them.
+use Prim.Native.Nat.{ℕ, zero, suc, _+_, _*_, _-_, _/_, _%_}
+use mathlib.Core.Bool.{Bool, true, false, cond, not, _&&_}
+use mathlib.Core.List.{List, [], _∷_, _++_}
+use mathlib.Core.Option.{Option}
+use lib.Dec.{eqb, ltb, leb}
+use lib.ListN.{getD, replicate}
+use Rattle.laws.specs.Options.{found, isSome}
+use Rattle.laws.specs.Ranges.{first, tab}
+use Rattle.dimension.specs.Dimension as D
+use Rattle.dimension.specs.declared.dimensions.Dimensions.{Dimensions}
+use Rattle.rules.specs.Layout.{kindCount, rowCount}
+use Rattle.rules.specs.Catalog.{Kind, Catalog, idAt, kindAt, kindFrom, rowAt, rowFrom, catalogIn, link}
+use Rattle.rules.specs.Table.{word, tableSize, tableWords, entriesOf, exponentWord, indexWord, kindWord}
+use Rattle.error.specs.declared.answer.Link.{Link}
+use Rattle.error.specs.declared.answer.Link.the-variants.{To, Nowhere}
+
+-- what a compilation writes; counts over the limits are refused before one asks
+unfoldable pub wordsFor : List ℕ → List ℕ
+wordsFor s = cond (leb (kindCount s) 240 && leb (rowCount s) 200) (tableWords (catalogIn s)) (replicate tableSize 0)
+
+-- f 0, .., f (n - 1), one after the other
+unfoldable pub flat : (ℕ → List ℕ) → ℕ → List ℕ
+flat f zero = []
+flat f (suc n) = flat f n ++ f n
+
+-- ---- links
+-- what the id at byte `at` of kind k names
+unfoldable pub linkWord : List ℕ → ℕ → ℕ → ℕ
+linkWord s at k = indexWord (link (catalogIn s) (idAt s (kindAt k + at)))
+
+-- the first of n links that leads to j
+unfoldable pub firstTo : List ℕ → ℕ → ℕ → Option ℕ
+firstTo links n j = first (λ i. eqb (getD links i 0) j) n
+
+unfoldable pub firstWord : List ℕ → ℕ → ℕ → ℕ
+firstWord links n j = indexWord (firstTo links n j)
+
+-- ---- kinds
+-- the exponents of dimensions as words
+unfoldable pub exponentsOf : Dimensions → List ℕ
+exponentsOf d = tab (λ i. exponentWord (D.exponent d (i / 2)) i) 24
+
+-- the role of a kind with difference d that is first named as a difference by f
+unfoldable pub roleBy : ℕ → ℕ → ℕ
+roleBy d f = cond (ltb d 65535) 1 (cond (ltb f 65535) 2 0)
+
+-- the marks of what is declared, by its links: difference, rate-of, who first names it as a difference, and its rate
+unfoldable pub marksBy : Kind → ℕ → ℕ → ℕ → ℕ → List ℕ
+marksBy x d t f r = cond (isSome (x .dims)) 1 0 ∷ x .grade ∷ roleBy d f ∷ d ∷ t ∷ r ∷ 0 ∷ 0 ∷ []
+
+-- its 32 words
+unfoldable pub kindBy : Kind → ℕ → ℕ → ℕ → ℕ → List ℕ
+kindBy x d t f r = exponentsOf (found (x .dims) (λ e. e) D.one) ++ marksBy x d t f r
+
+-- kind k by the lists of links
+unfoldable pub kindIn : List ℕ → List ℕ → List ℕ → List ℕ → List ℕ → ℕ → List ℕ
+kindIn s ds ts fs rs k = kindBy (kindFrom s (kindAt k)) (getD ds k 0) (getD ts k 0) (getD fs k 0) (getD rs k 0)
+
+-- word i of all kinds
+unfoldable pub kindsWord : Catalog → ℕ → ℕ
+kindsWord C i = kindWord C (i / 32) (i % 32)
+
+-- ---- rows
+-- a row's words, and where it also counts turned those of the turned pair
+unfoldable pub entryWords : ℕ → ℕ → ℕ → ℕ → Bool → List ℕ
+entryWords l o r k turned = (l ∷ o ∷ r ∷ k ∷ []) ++ cond turned (r ∷ o ∷ l ∷ k ∷ []) []
+
+-- the entries of a row by what its ids name
+unfoldable pub entriesBy : Link → Link → Link → ℕ → Bool → List ℕ
+entriesBy (To l) (To r) (To k) o c = entryWords l o r k (c && not (eqb l r))
+entriesBy (To l) (To r) Nowhere o c = []
+entriesBy (To l) Nowhere k o c = []
+entriesBy Nowhere r k o c = []
+
+-- what row i of an image enters
+unfoldable pub rowEntries : List ℕ → ℕ → List ℕ
+rowEntries s i = entriesOf (catalogIn s) (rowFrom s (rowAt s i))
+
+-- ---- the table
+-- word i of a head, then kinds, then rows
+unfoldable pub partWord : List ℕ → List ℕ → List ℕ → ℕ → ℕ
+partWord head kinds rows i = cond (ltb i 16) (word head i) (cond (ltb i 7696) (word kinds (i - 16)) (word rows (i - 7696)))

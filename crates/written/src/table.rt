@@ -1,0 +1,82 @@
+// The table: a head, the kinds, the rows in force.
+use crate::kinds::kinds_words;
+use crate::links::link_word;
+use crate::rows::rows_words;
+use crate::words::word;
+use catalog::DIMENSIONLESS;
+use catalog::TIME;
+use catalog::kind_count;
+use catalog::row_count;
+ghost use mathlib.Core.Path.{_≡_};
+ghost use mathlib.Core.List.{[], _∷_};
+ghost use Prim.Native.Nat.{_/_, _≤_, _<_};
+ghost use Rattle.laws.specs.Ranges.{tab};
+ghost use Rattle.rules.specs.Layout as layout;
+ghost use Rattle.rules.specs.Catalog.{catalogIn, idAt, link};
+ghost use Rattle.rules.specs.Table.{indexWord, tableWords};
+ghost use Rattle.written.specs.Shown.{partWord, wordsFor};
+
+// The first four words; `used` is how many words the rows in force take.
+fn head_words(image: &[u8], used: usize) -> [u32; 4]
+    requires { ⌜ used ≤ 1600 ⌝ }
+    ensures { λ r. ⌜ r ≡ layout.kindCount (now (image .entry)) ∷ used / 4 ∷ indexWord (link (catalogIn (now (image .entry))) (idAt (now (image .entry)) 12)) ∷ indexWord (link (catalogIn (now (image .entry))) (idAt (now (image .entry)) 44)) ∷ [] ⌝ }
+{
+    [
+        kind_count(image) as u32,
+        (used / 4) as u32,
+        link_word(image, DIMENSIONLESS) as u32,
+        link_word(image, TIME) as u32,
+    ]
+}
+
+// Word i of the table, from its three parts.
+fn part_word(head: &[u32], kinds: &[u32], rows: &[u32], i: usize) -> u32
+    ensures { λ r. ⌜ r ≡ partWord (now (head .entry)) (now (kinds .entry)) (now (rows .entry)) i ⌝ }
+{
+    if i < 16 {
+        return word(head, i);
+    }
+    if i < 7696 {
+        return word(kinds, i - 16);
+    }
+    word(rows, i - 7696)
+}
+
+// The three parts as one.
+fn joined(head: &[u32], kinds: &[u32], rows: &[u32]) -> [u32; 9296]
+    ensures { λ r. ⌜ r ≡ tab (partWord (now (head .entry)) (now (kinds .entry)) (now (rows .entry))) 9296 ⌝ }
+{
+    let mut t = [0u32; 9296];
+    let mut i: usize = 0;
+    while i < 9296 {
+        t[i] = part_word(head, kinds, rows, i);
+        i += 1;
+    }
+    t
+}
+
+// The words of a catalog within the limits.
+fn table_of(image: &[u8]) -> [u32; 9296]
+    requires { ⌜ layout.kindCount (now image) ≤ 240 ⌝ }
+    requires { ⌜ layout.rowCount (now image) ≤ 200 ⌝ }
+    ensures { λ r. ⌜ r ≡ tableWords (catalogIn (now (image .entry))) ⌝ }
+{
+    let kinds = kinds_words(image);
+    let force = rows_words(image);
+    let head = head_words(image, force.used);
+    let rows = force.words;
+    joined(&head, &kinds, &rows)
+}
+
+// The words that a compilation writes; zeros where a count is over its limit, which is refused before a compilation asks.
+pub fn table_words(image: &[u8]) -> [u32; 9296]
+    ensures { λ r. ⌜ r ≡ wordsFor (now (image .entry)) ⌝ }
+{
+    if 240 < kind_count(image) {
+        return [0; 9296];
+    }
+    if 200 < row_count(image) {
+        return [0; 9296];
+    }
+    table_of(image)
+}
