@@ -29,6 +29,7 @@ pub mod Calculated
 pub mod Terms
 -- laws that code over these rules wants
 pub mod ProductLaws
+pub mod NoKind
 pub mod TwinLaws
 pub mod TableLaws
 pub mod InRange

@@ -1,18 +1,18 @@
 -- For each kind the first link to it, listed in one pass over the links (`marks`): k links are seen, and `found` has the first of them to each of
 -- the numbers below m. Assumes nothing.
-use Prim.Native.Nat.{ℕ, zero, suc, _+_, _<_, _≤_}
+use Prim.Native.Nat.{ℕ, _+_, _<_, _≤_}
 use mathlib.Core.Path.{_≡_, refl, sym, _∙_, ap}
 use mathlib.Core.Bool.{Bool, true, false, cond, _&&_, true≢false}
-use mathlib.Core.List.{List, [], _∷_, _++_}
+use mathlib.Core.List.{List}
 use mathlib.Core.Option.{Option, some, none}
 use native.Mathlib.Nat.{le-antisymm}
 use native.Mathlib.Numerals.{add-one}
 use native.Mathlib.Omega.{arith}
-use borrow.Author.Tests.{ltb-true, ltb-false, eqb-true, eqb-false, eq-eqb, ne-eqb, lt-ltb}
+use borrow.Author.Tests.{ltb-true, eqb-true, eqb-false, eq-eqb, ne-eqb, lt-ltb}
 use lib.Dec.{eqb, ltb}
 use lib.ListN.{length, getD, set, replicate, length-set, length-replicate, getD-replicate}
 use lib.Seq.{ext-getD, getD-set-same, getD-set-other}
-use Rattle.laws.specs.Options.{found, orElse}
+use Rattle.laws.specs.Options.{orElse}
 use Rattle.laws.specs.Ranges.{first, tab}
 use Rattle.laws.proofs.Cases.{and-left, and-right}
 use Rattle.laws.proofs.First.{first-below}

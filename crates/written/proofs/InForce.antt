@@ -1,13 +1,13 @@
 -- What the rows enter, one after the other. Assumes nothing.
-use Prim.Native.Nat.{ℕ, zero, suc, _+_, _*_, _<_, _≤_}
-use mathlib.Core.Path.{_≡_, refl, sym, _∙_, ap, ap₂}
+use Prim.Native.Nat.{ℕ, zero, suc, _+_, _*_, _%_, _≤_}
+use mathlib.Core.Path.{_≡_, refl, _∙_, ap}
 use mathlib.Core.Bool.{Bool, true, false, cond, not, _&&_}
 use mathlib.Core.List.{List, [], _∷_, _++_}
 use mathlib.Core.Option.{Option, some, none}
 use native.Mathlib.Nat.{le-antisymm}
 use native.Mathlib.Omega.{arith}
 use lib.Dec.{eqb}
-use lib.ListN.{length, take}
+use lib.ListN.{length, length-append}
 use Rattle.laws.specs.Options.{found}
 use Rattle.dimension.specs.declared.grade.ProductOp.{ProductOp}
 use Rattle.laws.specs.Ranges.{overlay}
@@ -77,3 +77,30 @@ in-force s = flat-entries s (rowCount s)
 pub rows-end : (s : List ℕ) (i n used : ℕ) {t : List ℕ} (t₀ : List ℕ) → t ≡ overlay (flat (rowEntries s) i) t₀ → used ≡ length (flat (rowEntries s) i) → n ≡ rowCount s → i ≤ n → n ≤ i
     → (t ≡ overlay (inForce (catalogIn s)) t₀) × (used ≡ length (inForce (catalogIn s)))
 rows-end s i n used t₀ e q z l m = let y : i ≡ rowCount s = le-antisymm l m ∙ z in (e ∙ rw (y, in-force s), q ∙ rw (y, in-force s))
+
+-- ---- how many words there are: at most eight a row, four an entry
+abbrev few : List ℕ → Type 0
+few l = (length l ≤ 8) × (length l % 4 ≡ 0)
+
+pub entries-few : (C : Catalog) (x : Row) → (length (entriesOf C x) ≤ 8) × (length (entriesOf C x) % 4 ≡ 0)
+unfolding entriesOf
+entries-few C x = go (find C (x .left)) (find C (x .right)) (find C (x .result))
+  where
+    turned : (l r k : ℕ) (b : Bool) → few (rowWords l (x .op) r k ++ cond b (rowWords r (x .op) l k) [])
+    turned l r k true = (omega arith, refl)
+    turned l r k false = (omega arith, refl)
+
+    go : (a b c : Option ℕ) → few (found a (λ l. found b (λ r. found c (λ k. rowWords l (x .op) r k ++ cond (x .commutative && not (eqb l r)) (rowWords r (x .op) l k) []) []) []) [])
+    go (some l) (some r) (some k) = turned l r k (x .commutative && not (eqb l r))
+    go (some l) (some r) none = (omega arith, refl)
+    go (some l) none c = (omega arith, refl)
+    go none b c = (omega arith, refl)
+
+pub entries-in-few : (C : Catalog) (n : ℕ) → (length (entriesIn C n) ≤ 8 * n) × (length (entriesIn C n) % 4 ≡ 0)
+unfolding entriesIn
+entries-in-few C zero = (omega arith, refl)
+entries-in-few C (suc n) =
+    let p = entries-in-few C n in
+    let q = entries-few C (C .row n) in
+    let e : length (entriesIn C n ++ entriesOf C (C .row n)) ≡ length (entriesIn C n) + length (entriesOf C (C .row n)) = length-append (entriesIn C n) (entriesOf C (C .row n)) in
+    (omega arith, omega arith)

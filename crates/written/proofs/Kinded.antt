@@ -1,16 +1,15 @@
 -- The kinds' words against the definitions: what the lists of links say of roles, differences and rates, and the words of all kinds one after the
 -- other. Assumes nothing.
 use Prim.Native.Nat.{ℕ, zero, suc, _+_, _*_, _-_, _/_, _%_, _<_, _≤_}
-use mathlib.Core.Path.{_≡_, refl, sym, _∙_, ap, ap₂}
-use mathlib.Core.Bool.{Bool, true, false, cond, _&&_}
+use mathlib.Core.Path.{_≡_, refl, sym, _∙_, ap}
+use mathlib.Core.Bool.{Bool, true, false, cond}
 use mathlib.Core.List.{List, [], _∷_, _++_, append-assoc, append-nil}
 use mathlib.Core.Option.{Option, some, none}
-use native.Mathlib.Nat.{le-antisymm, add-suc, add-zero}
-use native.Mathlib.Numerals.{add-one}
+use native.Mathlib.Nat.{add-suc, add-zero}
 use native.Mathlib.Omega.{arith}
 use borrow.Author.Tests.{lt-ltb, ne-eqb}
 use lib.Dec.{eqb, ltb}
-use lib.ListN.{length, getD, take, replicate}
+use lib.ListN.{getD, take}
 use lib.Seq.{getD-take}
 use Rattle.laws.specs.Options.{found, isSome}
 use Rattle.laws.specs.Ranges.{first, tab, overlay}
@@ -18,8 +17,8 @@ use Rattle.laws.proofs.First.{first-below, first-same}
 use Rattle.laws.proofs.Tab.{tab-at, tab-same}
 use Rattle.dimension.specs.Dimension as D
 use Rattle.rules.specs.Layout.{kindCount}
-use Rattle.rules.specs.Catalog.{Catalog, Kind, Id, idAt, kindAt, kindFrom, catalogIn, blank, meant, find, link, differenceOf, targetOf, rateAmong, isDifference, role}
-use Rattle.rules.specs.Table.{word, indexWord, exponentWord, exponentOf, markWords, kindWord}
+use Rattle.rules.specs.Catalog.{Catalog, Id, idAt, kindAt, kindFrom, catalogIn, blank, meant, find, link, differenceOf, targetOf, rateAmong, isDifference, role}
+use Rattle.rules.specs.Table.{indexWord, exponentWord, exponentOf, markWords, kindWord}
 use Rattle.catalog.proofs.Found.{kind-in}
 use Rattle.written.specs.Shown.{flat, linkWord, firstTo, firstWord, exponentsOf, roleBy, marksBy, kindBy, kindIn, kindsWord}
 

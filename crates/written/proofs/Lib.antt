@@ -1,11 +1,15 @@
 -- What crates above may use, beyond the contracts:
---     Pasted    of lists put over zeros one after the other: `appends`
---     Firsts    of the first link to each kind: `marks`
---     Marked    of a kind's marks and words, by lists of its links
---     Parts     of the table, by its three parts
-pub mod Pasted
-pub mod Firsts
-pub mod Marked
-pub mod InForce
+--     Places     what stands in the table's words: in the head, at a kind, past the kinds, at the rows in force
+--     Kinded     of kinds by lists of their links: roles, differences, rates; what is found is a kind (`link-below`)
+--     InForce    of what rows enter, and how many words that are
+--     Parts      of the table made of a head, kinds and rows; of `wordsFor` within the limits
+--     Firsts     of the first link to each kind, listed in one pass: `marks`
+--     Pasted     of lists put one after the other over zeros: `copies`, `appends`
+pub mod Places
 pub mod Kinded
+pub mod InForce
 pub mod Parts
+pub mod Firsts
+pub mod Pasted
+-- on the way there
+mod Marked

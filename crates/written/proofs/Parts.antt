@@ -1,18 +1,18 @@
 -- The table, by its three parts. Assumes nothing.
-use Prim.Native.Nat.{ℕ, zero, suc, _+_, _*_, _-_, _/_, _%_, _<_, _≤_}
-use mathlib.Core.Path.{_≡_, refl, sym, _∙_, ap}
-use mathlib.Core.Bool.{Bool, true, false, cond, _&&_}
-use mathlib.Core.List.{List, [], _∷_, _++_}
+use Prim.Native.Nat.{ℕ, _*_, _-_, _/_, _%_, _<_, _≤_}
+use mathlib.Core.Path.{_≡_, refl, sym, _∙_}
+use mathlib.Core.Bool.{Bool, true, false}
+use mathlib.Core.List.{List, [], _∷_}
 use native.Mathlib.Omega.{arith}
-use borrow.Author.Tests.{ltb-true, ltb-false, lt-ltb, le-ltb, le-leb, lt-leb}
-use lib.Dec.{eqb, ltb, leb}
+use borrow.Author.Tests.{ltb-true, ltb-false, le-leb, lt-leb}
+use lib.Dec.{ltb}
 use lib.ListN.{length, getD, replicate, List·getD-eq-default}
 use Rattle.laws.specs.Ranges.{tab, below, overlay}
 use Rattle.laws.proofs.Below.{below-in, below-past}
 use Rattle.laws.proofs.Tab.{length-tab, tab-at, tab-same}
 use Rattle.rules.specs.Layout.{kindCount, rowCount}
 use Rattle.rules.specs.Catalog.{Catalog, idAt, catalogIn, link}
-use Rattle.rules.specs.Table.{word, rowPlace, tableSize, inForce, indexWord, headWords, kindWord, tableWord, tableWords}
+use Rattle.rules.specs.Table.{word, tableSize, inForce, indexWord, headWords, kindWord, tableWord, tableWords}
 use Rattle.written.specs.Shown.{kindsWord, partWord, wordsFor}
 use Rattle.written.proofs.Pasted.{over-zeros}
 
@@ -63,10 +63,13 @@ unfolding tableWords catalogIn
 table-told s head kinds rows used a b e h k r q = q ∙ parts-told (catalogIn s) head kinds rows a b (head-told s used e h) k r tableSize
 
 -- ---- the counts' limits
+pub words-within : (s : List ℕ) → kindCount s ≤ 240 → rowCount s ≤ 200 → wordsFor s ≡ tableWords (catalogIn s)
+unfolding wordsFor
+words-within s h l = rw (le-leb (kindCount s) 240 h, le-leb (rowCount s) 200 l)
+
 module _ (s : List ℕ) {v : List ℕ} where
   pub within-limits : kindCount s ≤ 240 → rowCount s ≤ 200 → v ≡ tableWords (catalogIn s) → v ≡ wordsFor s
-  unfolding wordsFor
-  within-limits h l e = rw (le-leb (kindCount s) 240 h, le-leb (rowCount s) 200 l) e
+  within-limits h l e = rw (words-within s h l) e
 
   pub kinds-over : 240 < kindCount s → v ≡ replicate tableSize 0 → v ≡ wordsFor s
   unfolding wordsFor

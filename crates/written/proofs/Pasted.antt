@@ -1,15 +1,15 @@
 -- Lists put one after the other over the front of a list, by a loop that copies (`appends`). t is the list now, t₀ as it was at first, `at` how much
 -- of it is written. Assumes nothing.
-use Prim.Native.Nat.{ℕ, zero, suc, _+_, _*_, _-_, _<_, _≤_}
-use mathlib.Core.Path.{_≡_, refl, sym, _∙_, ap, ap₂}
+use Prim.Native.Nat.{ℕ, zero, suc, _+_, _-_, _<_, _≤_}
+use mathlib.Core.Path.{_≡_, refl, sym, _∙_, ap}
 use mathlib.Core.Bool.{Bool, true, false}
-use mathlib.Core.List.{List, [], _∷_, _++_, append-nil}
+use mathlib.Core.List.{List, [], _++_, append-nil}
 use native.Mathlib.Nat.{le-antisymm}
 use native.Mathlib.Numerals.{add-one}
 use native.Mathlib.Omega.{arith}
 use borrow.Author.Tests.{ltb-true, ltb-false}
 use lib.Dec.{ltb}
-use lib.ListN.{length, getD, set, take, drop, replicate, length-append, length-replicate, drop-of-length-le, List·getD-append, List·getD-eq-default, getD-replicate}
+use lib.ListN.{length, getD, set, take, drop, replicate, length-append, length-replicate, drop-of-length-le, List·getD-append, List·getD-eq-default}
 use lib.Seq.{paste, paste-zero, paste-suc, take-all, length-paste, take-append-seam, drop-append-add, drop-drop, length-take-le, getD-append-add, getD-drop}
 use Rattle.laws.specs.Ranges.{overlay}
 use Rattle.written.specs.Shown.{flat}

@@ -1,6 +1,5 @@
 -- `written::rows::entry` meets its contract.
 -- Assumes nothing.
-use borrow.Author.Needs.{needs}
 use mathlib.Core.Path.{refl}
 use native.Mathlib.Omega.{arith}
 use Rattle.written.specs.Shown.{entryWords}
