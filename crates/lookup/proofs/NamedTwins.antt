@@ -36,17 +36,17 @@ Names K (given k) = Unit {0}
 Names K (refused x) = twinsOf K (named (errorOf x)) ≡ told x .twins
 
 -- ---- after a rule that names its twins, another
-names-then : {A B : Type 0} (K : Kinds) (m : Answer A) (f : A → Answer B) → Names K m → ((a : A) → Names K (f a)) → Names K (m >>= f)
+pub names-then : {A B : Type 0} (K : Kinds) (m : Answer A) (f : A → Answer B) → Names K m → ((a : A) → Names K (f a)) → Names K (m >>= f)
 names-then K (given a) f p q = q a
 names-then K (refused x) f p q = p
 
-names-next : {A B : Type 0} (K : Kinds) (m : Answer A) (n : Answer B) → Names K m → Names K n → Names K (m >> n)
+pub names-next : {A B : Type 0} (K : Kinds) (m : Answer A) (n : Answer B) → Names K m → Names K n → Names K (m >> n)
 names-next K (given a) n p q = q
 names-next K (refused x) n p q = p
 
 -- ---- rules whose refusals have no twins
 module _ (K : Kinds) where
-  if-names : (b : Bool) (x : Refusal) → twinsOf K (named (errorOf x)) ≡ told x .twins → Names K (refuseIf b x)
+  pub if-names : (b : Bool) (x : Refusal) → twinsOf K (named (errorOf x)) ≡ told x .twins → Names K (refuseIf b x)
   if-names true x p = p
   if-names false x p = tt
 
@@ -54,7 +54,7 @@ module _ (K : Kinds) where
   needed-names (some a) x p = tt
   needed-names none x p = p
 
-  indexed-names : (k : ℕ) → Names K (rule.indexed K k)
+  pub indexed-names : (k : ℕ) → Names K (rule.indexed K k)
   unfolding rule.indexed named twinsOf told
   indexed-names k = if-names (not (ltb k (K .count))) (why.NoKind k) refl
 
@@ -76,7 +76,7 @@ module _ (K : Kinds) where
       (names-next K (refuseIf (point K r) (why.Point l op r r)) _ (if-names (point K r) (why.Point l op r r) refl)
       (names-then K (rule.single (rule.gradeBy K op (K .grade l) (K .grade r)) (why.Ungraded l r (K .grade l) (K .grade r))) _ (single-names (rule.gradeBy K op (K .grade l) (K .grade r)) l r (K .grade l) (K .grade r)) (λ g. tt)))))
 
-  agree-names : (x a k : ℕ) → Names K (rule.agree x a k)
+  pub agree-names : (x a k : ℕ) → Names K (rule.agree x a k)
   unfolding named twinsOf told
   agree-names x a k = go (eqb x a)
     where
@@ -133,7 +133,7 @@ module _ (K : Kinds) (l : ℕ) (op : ProductOp) (r : ℕ) where
       go (refused x) p q = q
 
 module _ (K : Kinds) (R : Rows) where
-  combine-names : (op : rule.Op) (l r : ℕ) → Names K (rule.combine K R op l r)
+  pub combine-names : (op : rule.Op) (l r : ℕ) → Names K (rule.combine K R op l r)
   unfolding rule.combine
   combine-names (rule.summed s) l r = sum-names K s l r
   combine-names (rule.multiplied op) l r = product-names K l op r R
@@ -164,7 +164,7 @@ module _ (K : Kinds) (k : ℕ) (e : Rational) where
       go (some d) p = names-next K (refuseIf (D.power d e .over) (why.PowerOverLimits k)) _ (if-names K (D.power d e .over) (why.PowerOverLimits k) refl) (settled d _ p refl)
 
 module _ (K : Kinds) where
-  power-names : (code k : ℕ) (o : Option Rational) → Names K (rule.power K code k o)
+  pub power-names : (code k : ℕ) (o : Option Rational) → Names K (rule.power K code k o)
   unfolding rule.power rule.scaled named twinsOf told
   power-names code k none = refl
   power-names code k (some e) =

@@ -1,0 +1,3 @@
+-- A call's refusals name their twins, and its order.
+mod WalkNames
+mod Ordered
