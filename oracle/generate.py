@@ -22,8 +22,8 @@ from tools.records import Catalog, Kind, Row, dimensions  # noqa: E402
 FAULT_NUMBERS = sorted(catalogs.FAULTS)
 
 
-def compilations(generator, oracle, good, each_fault):
-    """Images with answers: so many that compile, and so many of each fault."""
+def compilations(generator, oracle, good, each_fault, most=14):
+    """Images with answers, of 3 to `most` kinds: so many that compile, and so many of each fault."""
     found, have, seen = [], collections.Counter(), set()
     wanted = {"compiled": good, **{str(number): each_fault for number in FAULT_NUMBERS}}
 
@@ -37,7 +37,7 @@ def compilations(generator, oracle, good, each_fault):
 
     while any(have[name] < count for name, count in wanted.items()):
         lacking = [n for n in FAULT_NUMBERS if have[str(n)] < each_fault]
-        catalog = catalogs.random_catalog(generator, oracle, generator.randint(3, 14))
+        catalog = catalogs.random_catalog(generator, oracle, generator.randint(3, most))
         keep(catalog)
         for number in lacking:
             keep(catalogs.with_fault(generator, catalog, number))
