@@ -31,7 +31,8 @@ fn carries_words(t: &[u32], w: &[u32], g: u32, k: u16) -> bool
 pub fn carries(t: &[u32], d: Dimensions, g: u32, k: u16) -> bool
     ensures { λ r. ⌜ r ≡ K.carries (kindsOf (now (t .entry))) (at d g) k ⌝ }
 {
-    let w = words_of(d);
+    let exponents = words_of(d);
+    let w = exponents.words;
     carries_words(t, &w, g, k)
 }
 
@@ -69,7 +70,8 @@ fn tally(t: &[u32], w: &[u32], g: u32, n: u16) -> Seen
 pub(crate) fn candidates(t: &[u32], d: Dimensions, g: u32) -> Seen
     ensures { λ r. ⌜ r ≡ seen (K.candidates (kindsOf (now (t .entry))) (at d g)) ⌝ }
 {
-    let w = words_of(d);
+    let exponents = words_of(d);
+    let w = exponents.words;
     tally(t, &w, g, kind_count(t))
 }
 
@@ -96,6 +98,7 @@ pub fn list_candidates(t: &[u32], d: Dimensions, g: u32, twins: &mut [u16])
     if twins.len() < 240 {
         return;
     }
-    let w = words_of(d);
+    let exponents = words_of(d);
+    let w = exponents.words;
     list(t, &w, g, kind_count(t), twins);
 }

@@ -20,5 +20,6 @@ pub use kinds::same_exponents;
 pub use kinds::target_of;
 pub use kinds::time;
 pub use rows::row_of;
+pub use words::Exponents;
 pub use words::word;
 pub use words::words_of;

@@ -4,6 +4,7 @@ use dimension::Rational;
 use error::Link;
 ghost use mathlib.Core.Path.{_≡_};
 ghost use Prim.Native.Nat.{_<_};
+ghost use lib.ListN.{length};
 ghost use Rattle.dimension.specs.Fraction as F;
 ghost use Rattle.dimension.specs.Integer as I;
 ghost use Rattle.rules.specs.Table as T;
@@ -71,9 +72,15 @@ fn num_word(x: Rational) -> u32
     dimension::bits32(x.num)
 }
 
-// The words of d, two for each exponent, as a kind has them.
-pub fn words_of(d: Dimensions) -> [u32; 24]
-    ensures { λ r. ⌜ T.dimsFrom r 0 ≡ d ⌝ }
+// Twelve exponents, two words each, as a kind has them.
+pub struct Exponents {
+    pub words: [u32; 24],
+}
+
+// The words of d.
+pub fn words_of(d: Dimensions) -> Exponents
+    ensures { λ r. ⌜ T.dimsFrom (r .words) 0 ≡ d ⌝ }
+    ensures { λ r. ⌜ length (r .words) ≡ 24 ⌝ }
 {
     let mut w = [0u32; 24];
     let mut b: usize = 0;
@@ -83,5 +90,5 @@ pub fn words_of(d: Dimensions) -> [u32; 24]
         w[2 * b + 1] = x.den;
         b += 1;
     }
-    w
+    Exponents { words: w }
 }

@@ -1,73 +1,78 @@
 -- What the rows enter, one after the other. Assumes nothing.
-use Prim.Native.Nat.{ℕ, zero, suc, _+_, _*_, _%_, _≤_}
+use Prim.Native.Nat.{ℕ, zero, suc, _+_, _*_, _/_, _%_, _<_, _≤_}
 use mathlib.Core.Path.{_≡_, refl, _∙_, ap}
 use mathlib.Core.Bool.{Bool, true, false, cond, not, _&&_}
-use mathlib.Core.List.{List, [], _∷_, _++_}
+use mathlib.Core.List.{List, [], _++_}
 use mathlib.Core.Option.{Option, some, none}
 use native.Mathlib.Nat.{le-antisymm}
 use native.Mathlib.Omega.{arith}
-use lib.Dec.{eqb}
-use lib.ListN.{length, length-append}
-use Rattle.laws.specs.Options.{found}
+use lib.Dec.{eqb, ltb}
+use lib.ListN.{length, getD, drop, replicate, length-append, List·getD-append}
+use Rattle.laws.specs.Options.{found, isSome}
 use Rattle.dimension.specs.declared.grade.ProductOp.{ProductOp}
-use Rattle.laws.specs.Ranges.{overlay}
+use Rattle.laws.specs.Ranges.{tab, overlay}
+use Rattle.laws.proofs.Tab.{length-tab, tab-at}
 use Rattle.rules.specs.Kinds.{opWord}
-use Rattle.rules.specs.Layout.{rowCount}
-use Rattle.rules.specs.Catalog.{Catalog, Row, idAt, rowFrom, rowAt, catalogIn, find}
-use Rattle.rules.specs.Table.{rowWords, entriesOf, entriesIn, inForce}
-use Rattle.error.specs.Shown.{linked}
-use Rattle.error.specs.declared.answer.Link.{Link}
-use Rattle.error.specs.declared.answer.Link.the-variants.{To, Nowhere}
-use Rattle.written.specs.Shown.{flat, entryWords, entriesBy, rowEntries}
+use Rattle.rules.specs.Layout.{kindCount, rowCount}
+use Rattle.rules.specs.Catalog.{Catalog, Row, Id, idAt, rowFrom, rowAt, catalogIn, find}
+use Rattle.rules.specs.Table.{indexWord, rowWords, entriesOf, entriesIn, inForce}
+use Rattle.written.specs.Shown.{flat, entryWords, entriesBy, rowEntries, rowLink, linksIn}
+use Rattle.written.proofs.Kinded.{word-there, find-below}
 
 -- ---- one row, by what its ids name
-pub entered-all : {l r k : Link} {a b c : ℕ} (o : ℕ) (m : Bool) {v : List ℕ} → l ≡ To a → r ≡ To b → k ≡ To c → v ≡ entryWords a o b c (m && not (eqb a b)) → v ≡ entriesBy l r k o m
-unfolding entriesBy
-entered-all o m p q s e = rw (p, q, s) e
-
-module _ (o : ℕ) (m : Bool) where
-  pub no-left : (r k : Link) {l : Link} → l ≡ Nowhere → [] ≡ entriesBy l r k o m
+module _ (x : Row) (l r k : ℕ) where
+  pub entered-all : {q : ProductOp} {o : ℕ} {m : Bool} {v : List ℕ} → (ltb l 65535 && ltb r 65535 && ltb k 65535) ≡ true
+      → q ≡ x .op → o ≡ opWord q → m ≡ x .commutative → v ≡ entryWords l o r k (m && not (eqb l r)) → v ≡ entriesBy x l r k
   unfolding entriesBy
-  no-left r k p = rw p
+  entered-all t d e f g = g ∙ rw (t, e, d, f)
 
-  pub no-right : (l k : Link) {r : Link} → r ≡ Nowhere → [] ≡ entriesBy l r k o m
+  pub entered-none : (ltb l 65535 && ltb r 65535 && ltb k 65535) ≡ false → [] ≡ entriesBy x l r k
   unfolding entriesBy
-  no-right (To a) k p = rw p
-  no-right Nowhere k p = refl
+  entered-none t = rw t
 
-  pub no-result : (l r : Link) {k : Link} → k ≡ Nowhere → [] ≡ entriesBy l r k o m
-  unfolding entriesBy
-  no-result (To a) (To b) p = rw p
-  no-result (To a) Nowhere p = refl
-  no-result Nowhere r p = refl
-
-pub entries-by : (C : Catalog) (x : Row) → entriesBy (linked (find C (x .left))) (linked (find C (x .right))) (linked (find C (x .result))) (opWord (x .op)) (x .commutative) ≡ entriesOf C x
+pub entries-by : (C : Catalog) (x : Row) → C .kindCount ≤ 240 → entriesBy x (indexWord (find C (x .left))) (indexWord (find C (x .right))) (indexWord (find C (x .result))) ≡ entriesOf C x
 unfolding entriesBy entriesOf entryWords
-entries-by C x = go (find C (x .left)) (find C (x .right)) (find C (x .result))
+entries-by C x h = go (find C (x .left)) (find C (x .right)) (find C (x .result)) (there (x .left)) (there (x .right)) (there (x .result))
   where
-    go : (a b c : Option ℕ) → entriesBy (linked a) (linked b) (linked c) (opWord (x .op)) (x .commutative)
-        ≡ found a (λ l. found b (λ r. found c (λ k. rowWords l (x .op) r k ++ cond (x .commutative && not (eqb l r)) (rowWords r (x .op) l k) []) []) []) []
-    go (some l) (some r) (some k) = refl
-    go (some l) (some r) none = refl
-    go (some l) none c = refl
-    go none b c = refl
+    there : (id : Id) → ltb (indexWord (find C id)) 65535 ≡ isSome (find C id)
+    there id = word-there (find C id) (λ k e. omega (arith, find-below C id e))
 
-module _ (s : List ℕ) (p : ℕ) where
-  pub entered-at : {l r k : Link} {q : ProductOp} {o : ℕ} {m : Bool} {v : List ℕ}
-      → l ≡ linked (find (catalogIn s) (idAt s p)) → r ≡ linked (find (catalogIn s) (idAt s (p + 32))) → k ≡ linked (find (catalogIn s) (idAt s (p + 64)))
-      → q ≡ rowFrom s p .op → o ≡ opWord q → m ≡ rowFrom s p .commutative → v ≡ entriesBy l r k o m → v ≡ entriesOf (catalogIn s) (rowFrom s p)
-  unfolding rowFrom
-  entered-at a b c d e f g = g ∙ rw (a, b, c, e, d, f) (entries-by (catalogIn s) (rowFrom s p))
+    go : (a b c : Option ℕ) → ltb (indexWord a) 65535 ≡ isSome a → ltb (indexWord b) 65535 ≡ isSome b → ltb (indexWord c) 65535 ≡ isSome c
+        → entriesBy x (indexWord a) (indexWord b) (indexWord c)
+        ≡ found a (λ l. found b (λ r. found c (λ k. rowWords l (x .op) r k ++ cond (x .commutative && not (eqb l r)) (rowWords r (x .op) l k) []) []) []) []
+    go (some l) (some r) (some k) p q t = rw (p, q, t)
+    go (some l) (some r) none p q t = rw (p, q)
+    go (some l) none c p q t = rw p
+    go none b c p q t = refl
+
+-- what is listed of id j of all rows
+pub links-at : (s : List ℕ) (j : ℕ) → j < 3 * rowCount s → getD (linksIn s) j 0 ≡ rowLink s j
+links-at s j h =
+    let l : j < length (tab (rowLink s) (3 * rowCount s)) = rw (length-tab (rowLink s) (3 * rowCount s)) h in
+    List·getD-append (tab (rowLink s) (3 * rowCount s)) (drop (length (tab (rowLink s) (3 * rowCount s))) (replicate 600 65535)) 0 j l ∙ tab-at (rowLink s) (3 * rowCount s) j 0 h
+
+-- row i of an image, by that list
+module _ (s ls : List ℕ) (i : ℕ) (e : ls ≡ linksIn s) (h : kindCount s ≤ 240) (n : i < rowCount s) where
+  listed : (m j p : ℕ) → m < 3 → j ≡ 3 * i + m → p ≡ rowAt s i + 32 * m → getD ls j 0 ≡ indexWord (find (catalogIn s) (idAt s p))
+  unfolding rowLink
+  listed m j p q a b =
+      let c : j / 3 ≡ i = omega arith in
+      let d : j % 3 ≡ m = omega arith in
+      ap (λ (t : List ℕ). getD t j 0) e ∙ links-at s j (omega arith) ∙ rw (c, d, b)
+
+  pub row-entered : {p : ℕ} {v : List ℕ} → p ≡ rowAt s i → v ≡ entriesBy (rowFrom s p) (getD ls (3 * i) 0) (getD ls (3 * i + 1) 0) (getD ls (3 * i + 2) 0) → v ≡ rowEntries s i
+  unfolding rowEntries rowFrom catalogIn
+  row-entered q w =
+      let a = listed 0 (3 * i) (rowAt s i) (omega arith) (omega arith) (omega arith) in
+      let b = listed 1 (3 * i + 1) (rowAt s i + 32) (omega arith) (omega arith) (omega arith) in
+      let c = listed 2 (3 * i + 2) (rowAt s i + 64) (omega arith) (omega arith) (omega arith) in
+      w ∙ rw (q, a, b, c) (entries-by (catalogIn s) (rowFrom s (rowAt s i)) h)
 
 -- ---- all rows
 pub flat-entries : (s : List ℕ) (n : ℕ) → flat (rowEntries s) n ≡ entriesIn (catalogIn s) n
 unfolding flat entriesIn rowEntries catalogIn
 flat-entries s zero = refl
 flat-entries s (suc n) = ap (λ (l : List ℕ). l ++ entriesOf (catalogIn s) (rowFrom s (rowAt s n))) (flat-entries s n)
-
-pub row-entered : (s : List ℕ) (i : ℕ) {p : ℕ} {v : List ℕ} → p ≡ rowAt s i → v ≡ entriesOf (catalogIn s) (rowFrom s p) → v ≡ rowEntries s i
-unfolding rowEntries
-row-entered s i e q = q ∙ rw e
 
 pub in-force : (s : List ℕ) → flat (rowEntries s) (rowCount s) ≡ inForce (catalogIn s)
 unfolding catalogIn

@@ -36,7 +36,7 @@ link-below C id {k} e = find-below C id (go (blank id) e)
     go false p = p
 
 -- ---- an index below 65,535 as a word: whether there is one, and whether it is j
-word-there : (o : Option ℕ) → ((k : ℕ) → o ≡ some k → k < 65535) → ltb (indexWord o) 65535 ≡ isSome o
+pub word-there : (o : Option ℕ) → ((k : ℕ) → o ≡ some k → k < 65535) → ltb (indexWord o) 65535 ≡ isSome o
 word-there (some k) h = lt-ltb k 65535 (h k refl)
 word-there none h = refl
 

@@ -1,5 +1,5 @@
 -- A kind's marks and words, by lists of its links. Assumes nothing.
-use Prim.Native.Nat.{ℕ, zero, suc, _+_, _/_, _<_, _≤_}
+use Prim.Native.Nat.{ℕ, zero, suc, _+_, _*_, _/_, _%_, _<_, _≤_}
 use mathlib.Core.Path.{_≡_, refl, _∙_, ap}
 use mathlib.Core.Bool.{Bool, true, false, _&&_}
 use mathlib.Core.List.{List, [], _∷_}
@@ -14,30 +14,23 @@ use Rattle.dimension.specs.Fraction as F
 use Rattle.dimension.specs.Dimension as D
 use Rattle.dimension.specs.declared.rational.Rational.{Rational}
 use Rattle.dimension.specs.declared.dimensions.Dimensions.{Dimensions}
-use Rattle.rules.specs.Catalog.{Catalog, Kind, Id, link, kindAt, kindFrom}
+use Rattle.rules.specs.Catalog.{Kind, idAt, kindAt, kindFrom, rowAt, catalogIn, find}
 use Rattle.rules.specs.Table.{indexWord, exponentWord}
 use Rattle.error.specs.Shown.{linked}
 use Rattle.error.specs.declared.answer.Link.{Link}
-use Rattle.error.specs.declared.answer.Link.the-variants.{To, Nowhere}
 use Rattle.laws.proofs.Tab.{length-tab}
-use Rattle.written.specs.Shown.{exponentsOf, marksBy, kindBy, kindIn}
+use Rattle.written.specs.Shown.{indexBy, exponentsOf, marksBy, kindBy, kindIn, rowLink}
 use Rattle.written.proofs.Pasted.{two-parts}
 
--- ---- a link as a word
-to-word : {v : Link} {k : ℕ} (o : Option ℕ) → v ≡ To k → v ≡ linked o → k ≡ indexWord o
-to-word (some i) p q = cc
-to-word none p q = cc
+-- ---- a link as an index
+pub index-linked : {l : Link} {v : ℕ} (o : Option ℕ) → l ≡ linked o → v ≡ indexBy l → v ≡ indexWord o
+unfolding indexBy
+index-linked (some k) p e = e ∙ rw p
+index-linked none p e = e ∙ rw p
 
-no-word : {v : Link} (o : Option ℕ) → v ≡ Nowhere → v ≡ linked o → 65535 ≡ indexWord o
-no-word (some i) p q = cc
-no-word none p q = refl
-
-module _ (C : Catalog) (id : Id) {v : Link} where
-  pub word-to : {k : ℕ} → v ≡ To k → v ≡ linked (link C id) → k ≡ indexWord (link C id)
-  word-to p q = to-word (link C id) p q
-
-  pub word-nowhere : v ≡ Nowhere → v ≡ linked (link C id) → 65535 ≡ indexWord (link C id)
-  word-nowhere p q = no-word (link C id) p q
+pub row-linked : (s : List ℕ) (j : ℕ) {p : ℕ} {l : Link} {v : ℕ} → p ≡ rowAt s (j / 3) → l ≡ linked (find (catalogIn s) (idAt s (p + 32 * (j % 3)))) → v ≡ indexBy l → v ≡ rowLink s j
+unfolding rowLink
+row-linked s j {p} q e i = index-linked (find (catalogIn s) (idAt s (p + 32 * (j % 3)))) e i ∙ rw q
 
 -- ---- a test of two parts, of which the code looks at the second where the first holds
 pub and-then : {a b r : Bool} → a ≡ true → r ≡ b → r ≡ (a && b)

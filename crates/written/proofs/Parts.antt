@@ -1,19 +1,20 @@
 -- The table, by its three parts. Assumes nothing.
 use Prim.Native.Nat.{ℕ, _*_, _-_, _/_, _%_, _<_, _≤_}
 use mathlib.Core.Path.{_≡_, refl, sym, _∙_}
-use mathlib.Core.Bool.{Bool, true, false}
+use mathlib.Core.Bool.{Bool, true, false, _&&_}
 use mathlib.Core.List.{List, [], _∷_}
 use native.Mathlib.Omega.{arith}
-use borrow.Author.Tests.{ltb-true, ltb-false, le-leb, lt-leb}
-use lib.Dec.{ltb}
+use borrow.Author.Tests.{ltb-true, ltb-false, leb-true, le-leb}
+use lib.Dec.{ltb, leb}
 use lib.ListN.{length, getD, replicate, List·getD-eq-default}
 use Rattle.laws.specs.Ranges.{tab, below, overlay}
+use Rattle.laws.proofs.Cases.{and-left, and-right}
 use Rattle.laws.proofs.Below.{below-in, below-past}
 use Rattle.laws.proofs.Tab.{length-tab, tab-at, tab-same}
 use Rattle.rules.specs.Layout.{kindCount, rowCount}
 use Rattle.rules.specs.Catalog.{Catalog, idAt, catalogIn, link}
 use Rattle.rules.specs.Table.{word, tableSize, inForce, indexWord, headWords, kindWord, tableWord, tableWords}
-use Rattle.written.specs.Shown.{kindsWord, partWord, wordsFor}
+use Rattle.written.specs.Shown.{kindsWord, partWord, wordsFor, linksIn, linksFor}
 use Rattle.written.proofs.Pasted.{over-zeros}
 
 -- word j of all kinds
@@ -67,14 +68,24 @@ pub words-within : (s : List ℕ) → kindCount s ≤ 240 → rowCount s ≤ 200
 unfolding wordsFor
 words-within s h l = rw (le-leb (kindCount s) 240 h, le-leb (rowCount s) 200 l)
 
-module _ (s : List ℕ) {v : List ℕ} where
-  pub within-limits : kindCount s ≤ 240 → rowCount s ≤ 200 → v ≡ tableWords (catalogIn s) → v ≡ wordsFor s
-  within-limits h l e = rw (words-within s h l) e
+pub links-within : (s : List ℕ) → kindCount s ≤ 240 → rowCount s ≤ 200 → linksFor s ≡ linksIn s
+unfolding linksFor
+links-within s h l = rw (le-leb (kindCount s) 240 h, le-leb (rowCount s) 200 l)
 
-  pub kinds-over : 240 < kindCount s → v ≡ replicate tableSize 0 → v ≡ wordsFor s
-  unfolding wordsFor
-  kinds-over h e = rw (lt-leb (kindCount s) 240 h) e
+-- what the code knows of them
+module _ (s : List ℕ) {a b : ℕ} (p : a ≡ kindCount s) (q : b ≡ rowCount s) where
+  told : {t : Bool} → (leb a 240 && leb b 200) ≡ t → (leb (kindCount s) 240 && leb (rowCount s) 200) ≡ t
+  told e = rw (p, q) at e
 
-  pub rows-over : kindCount s ≤ 240 → 200 < rowCount s → v ≡ replicate tableSize 0 → v ≡ wordsFor s
-  unfolding wordsFor
-  rows-over h l e = rw (le-leb (kindCount s) 240 h, lt-leb (rowCount s) 200 l) e
+  pub limits-kept : (leb a 240 && leb b 200) ≡ true → (kindCount s ≤ 240) × (rowCount s ≤ 200)
+  limits-kept t =
+      (leb-true (kindCount s) 240 (and-left (leb (kindCount s) 240) (leb (rowCount s) 200) (told t)), leb-true (rowCount s) 200 (and-right (leb (kindCount s) 240) (leb (rowCount s) 200) (told t)))
+
+  module _ {v w : List ℕ} where
+    pub within-limits : (leb a 240 && leb b 200) ≡ true → v ≡ tableWords (catalogIn s) → w ≡ linksIn s → (v ≡ wordsFor s) × (w ≡ linksFor s)
+    unfolding wordsFor linksFor
+    within-limits t e f = (rw (told t) e, rw (told t) f)
+
+    pub over-limits : (leb a 240 && leb b 200) ≡ false → v ≡ replicate tableSize 0 → w ≡ replicate 600 65535 → (v ≡ wordsFor s) × (w ≡ linksFor s)
+    unfolding wordsFor linksFor
+    over-limits t e f = (rw (told t) e, rw (told t) f)

@@ -1,16 +1,17 @@
 -- The words of an image, and what private functions of the crate compute on the way to them.
-use Prim.Native.Nat.{ℕ, zero, suc, _+_, _-_, _/_, _%_}
+use Prim.Native.Nat.{ℕ, zero, suc, _+_, _*_, _-_, _/_, _%_}
 use mathlib.Core.Bool.{Bool, cond, not, _&&_}
 use mathlib.Core.List.{List, [], _∷_, _++_}
 use mathlib.Core.Option.{Option}
 use lib.Dec.{eqb, ltb, leb}
 use lib.ListN.{getD, replicate}
 use Rattle.laws.specs.Options.{found, isSome}
-use Rattle.laws.specs.Ranges.{first, tab}
+use Rattle.laws.specs.Ranges.{first, tab, overlay}
 use Rattle.dimension.specs.Dimension as D
 use Rattle.dimension.specs.declared.dimensions.Dimensions.{Dimensions}
+use Rattle.rules.specs.Kinds.{opWord}
 use Rattle.rules.specs.Layout.{kindCount, rowCount}
-use Rattle.rules.specs.Catalog.{Kind, Catalog, idAt, kindAt, kindFrom, rowAt, rowFrom, catalogIn, link}
+use Rattle.rules.specs.Catalog.{Kind, Row, Catalog, idAt, kindAt, kindFrom, rowAt, rowFrom, catalogIn, find, link}
 use Rattle.rules.specs.Table.{word, tableSize, tableWords, entriesOf, exponentWord, indexWord, kindWord}
 use Rattle.error.specs.declared.answer.Link.{Link}
 use Rattle.error.specs.declared.answer.Link.the-variants.{To, Nowhere}
@@ -25,6 +26,11 @@ flat f zero = []
 flat f (suc n) = flat f n ++ f n
 
 -- ---- links
+-- a link as an index, 65,535 for none
+unfoldable pub indexBy : Link → ℕ
+indexBy (To k) = k
+indexBy Nowhere = 65535
+
 -- what the id at byte `at` of kind k names
 unfoldable pub linkWord : List ℕ → ℕ → ℕ → ℕ
 linkWord s at k = indexWord (link (catalogIn s) (idAt s (kindAt k + at)))
@@ -67,15 +73,24 @@ unfoldable pub entryWords : ℕ → ℕ → ℕ → ℕ → Bool → List ℕ
 entryWords l o r k turned = (l ∷ o ∷ r ∷ k ∷ []) ++ cond turned (r ∷ o ∷ l ∷ k ∷ []) []
 
 -- the entries of a row by what its ids name
-unfoldable pub entriesBy : Link → Link → Link → ℕ → Bool → List ℕ
-entriesBy (To l) (To r) (To k) o c = entryWords l o r k (c && not (eqb l r))
-entriesBy (To l) (To r) Nowhere o c = []
-entriesBy (To l) Nowhere k o c = []
-entriesBy Nowhere r k o c = []
+unfoldable pub entriesBy : Row → ℕ → ℕ → ℕ → List ℕ
+entriesBy x l r k = cond (ltb l 65535 && ltb r 65535 && ltb k 65535) (entryWords l (opWord (x .op)) r k (x .commutative && not (eqb l r))) []
 
 -- what row i of an image enters
 unfoldable pub rowEntries : List ℕ → ℕ → List ℕ
 rowEntries s i = entriesOf (catalogIn s) (rowFrom s (rowAt s i))
+
+-- what id j of all rows names, three ids a row: left, right, result
+unfoldable pub rowLink : List ℕ → ℕ → ℕ
+rowLink s j = indexWord (find (catalogIn s) (idAt s (rowAt s (j / 3) + 32 * (j % 3))))
+
+-- what the ids of all rows name, in a list of 600 with 65,535 for none
+abbrev pub linksIn : List ℕ → List ℕ
+linksIn s = overlay (tab (rowLink s) (3 * rowCount s)) (replicate 600 65535)
+
+-- beside the words of a compilation
+unfoldable pub linksFor : List ℕ → List ℕ
+linksFor s = cond (leb (kindCount s) 240 && leb (rowCount s) 200) (linksIn s) (replicate 600 65535)
 
 -- ---- the table
 -- word i of a head, then kinds, then rows

@@ -1,5 +1,5 @@
-// The words that a compilation writes. No id is looked up twice: what the ids of the kinds name is listed first, and everything else about links is
-// read from the lists.
+// The words that a compilation writes. No id is looked up twice: what the ids of the kinds and of the rows name is listed first, and everything
+// else about links is read from the lists; a compilation reads those of the rows too.
 mod kinds;
 mod links;
 mod marks;
@@ -7,4 +7,5 @@ mod rows;
 mod table;
 mod words;
 
+pub use table::Written;
 pub use table::table_words;

@@ -12,16 +12,23 @@ ghost use Rattle.laws.specs.Ranges.{tab};
 ghost use Rattle.rules.specs.Layout as layout;
 ghost use Rattle.rules.specs.Catalog.{idAt, catalogIn, link};
 ghost use Rattle.rules.specs.Table.{indexWord};
-ghost use Rattle.written.specs.Shown.{linkWord, firstWord};
+ghost use Rattle.written.specs.Shown.{indexBy, linkWord, firstWord};
+
+// A link as an index.
+pub(crate) fn index(l: Link) -> u16
+    ensures { λ r. ⌜ r ≡ indexBy l ⌝ }
+{
+    match l {
+        Link::To(k) => k,
+        Link::Nowhere => 65535,
+    }
+}
 
 // The kind that the id at p names.
 pub(crate) fn link_word(image: &[u8], p: u32) -> u16
     ensures { λ r. ⌜ r ≡ indexWord (link (catalogIn (now (image .entry))) (idAt (now (image .entry)) p)) ⌝ }
 {
-    match link_at(image, p) {
-        Link::To(k) => k,
-        Link::Nowhere => 65535,
-    }
+    index(link_at(image, p))
 }
 
 // What the id at byte `at` of kind k names.

@@ -1,6 +1,7 @@
 // The table: a head, the kinds, the rows in force.
 use crate::kinds::kinds_words;
 use crate::links::link_word;
+use crate::rows::row_links;
 use crate::rows::rows_words;
 use crate::words::word;
 use catalog::DIMENSIONLESS;
@@ -14,7 +15,13 @@ ghost use Rattle.laws.specs.Ranges.{tab};
 ghost use Rattle.rules.specs.Layout as layout;
 ghost use Rattle.rules.specs.Catalog.{catalogIn, idAt, link};
 ghost use Rattle.rules.specs.Table.{indexWord, tableWords};
-ghost use Rattle.written.specs.Shown.{partWord, wordsFor};
+ghost use Rattle.written.specs.Shown.{partWord, wordsFor, linksIn, linksFor};
+
+// The words that a compilation writes, and what the ids of the rows name: three a row (left, right, result), 65,535 for none.
+pub struct Written {
+    pub words: [u32; 9296],
+    pub links: [u16; 600],
+}
 
 // The first four words; `used` is how many words the rows in force take.
 fn head_words(image: &[u8], used: usize) -> [u32; 4]
@@ -55,28 +62,35 @@ fn joined(head: &[u32], kinds: &[u32], rows: &[u32]) -> [u32; 9296]
     t
 }
 
-// The words of a catalog within the limits.
-fn table_of(image: &[u8]) -> [u32; 9296]
+// The words and links of a catalog within the limits.
+fn table_of(image: &[u8]) -> Written
     requires { ⌜ layout.kindCount (now image) ≤ 240 ⌝ }
     requires { ⌜ layout.rowCount (now image) ≤ 200 ⌝ }
-    ensures { λ r. ⌜ r ≡ tableWords (catalogIn (now (image .entry))) ⌝ }
+    ensures { λ r. ⌜ r .words ≡ tableWords (catalogIn (now (image .entry))) ⌝ }
+    ensures { λ r. ⌜ r .links ≡ linksIn (now (image .entry)) ⌝ }
 {
+    let links = row_links(image);
     let kinds = kinds_words(image);
-    let force = rows_words(image);
+    let force = rows_words(image, &links);
     let head = head_words(image, force.used);
     let rows = force.words;
-    joined(&head, &kinds, &rows)
+    Written {
+        words: joined(&head, &kinds, &rows),
+        links,
+    }
 }
 
-// The words that a compilation writes; zeros where a count is over its limit, which is refused before a compilation asks.
-pub fn table_words(image: &[u8]) -> [u32; 9296]
-    ensures { λ r. ⌜ r ≡ wordsFor (now (image .entry)) ⌝ }
+// The words that a compilation writes, and the links of the rows. Zeros and no links where a count is over its limit, which is refused before a
+// compilation asks.
+pub fn table_words(image: &[u8]) -> Written
+    ensures { λ r. ⌜ r .words ≡ wordsFor (now (image .entry)) ⌝ }
+    ensures { λ r. ⌜ r .links ≡ linksFor (now (image .entry)) ⌝ }
 {
-    if 240 < kind_count(image) {
-        return [0; 9296];
+    if (kind_count(image) <= 240) & (row_count(image) <= 200) {
+        return table_of(image);
     }
-    if 200 < row_count(image) {
-        return [0; 9296];
+    Written {
+        words: [0; 9296],
+        links: [65535; 600],
     }
-    table_of(image)
 }

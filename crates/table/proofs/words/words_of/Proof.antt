@@ -29,7 +29,7 @@ loop-again c =
     (omega arith, simp length-set (l .inv .1), words-next (l .w) (l .b) _ _ (l .inv .1) (omega arith) _ _ _ (twelve (c .before .before .before .before)) refl (c .num-word .ensures) refl (l .inv .2))
 
 returns : tie.Need-returns Inv-loop μ-loop
-returns c = words-end _ (c .before .loop .b) _ (twelve (c .before .before)) (omega arith) (omega arith) (c .before .loop .inv .2)
+returns c = (words-end _ (c .before .loop .b) _ (twelve (c .before .before)) (omega arith) (omega arith) (c .before .loop .inv .2), c .before .loop .inv .1)
 
 pub words-of-spec : {M : Type 1} → statement M
 words-of-spec = tie.close (tie.spec Inv-loop μ-loop loop-holds (search needs) (search needs) (search needs) (search needs) (search needs) (search needs) (search needs) (search needs) (search needs) (search needs) (search needs) (search needs) loop-again returns)
