@@ -3,7 +3,6 @@
 use Prim.Native.Nat.{ℕ}
 use mathlib.Core.Path.{_≡_, refl, sym, _∙_, ap}
 use mathlib.Core.Bool.{Bool, true, false, true≢false, not}
-use mathlib.Core.List.{List, []}
 use mathlib.Core.Option.{Option, some, none}
 use borrow.Author.Tests.{not-true, not-false}
 use Rattle.laws.specs.Options.{found, isSome}
@@ -14,7 +13,7 @@ use Rattle.dimension.specs.declared.grade.ProductOp.{ProductOp}
 use Rattle.dimension.specs.declared.grade.Grade.{Grade}
 use Rattle.dimension.specs.declared.grade.Grade.the-variants.{Single, Absent}
 use Rattle.rules.specs.Kinds.{Kinds, Graded, point}
-use Rattle.rules.specs.Refusal.{Refusal, Answer, codeOf, told}
+use Rattle.rules.specs.Refusal.{Refusal, Answer, UnresolvedDimensions, Point, Ungraded, codeOf, told}
 use Rattle.rules.specs.Arithmetic as rule
 use Rattle.error.specs.Shown.{errorOf, besides}
 use Rattle.error.specs.declared.cause.Error.{Error}
@@ -120,3 +119,21 @@ module _ (K : Kinds) (l : ℕ) (op : ProductOp) (r : ℕ) {a : Bool} (ea : a ≡
           derives-to fw h = h ∙ one-grade K l op r pl pr (sym ep ∙ fp) (sym eq ∙ fq) (sym ew ∙ fw)
 
 pub ruleset derives = (left-unresolved, right-unresolved, left-point, right-point, ungraded, derives-to)
+
+-- ---- what a derivation is refused for returns no dimensions
+-- one refusal is another
+abbrev Same : Refusal → Refusal → Type 0
+Same y x = _≡_ {A = Answer Graded} (refused y) (refused x)
+
+pub plain-refusal : (K : Kinds) (l : ℕ) (op : ProductOp) (r : ℕ) (x : Refusal) → rule.derive K l op r ≡ refused x → besides x ≡ D.one
+unfolding rule.derive rule.operand rule.graded told
+plain-refusal K l op r x e = go (K .dims l) refl (K .dims r) refl (point K l) refl (point K r) refl (rule.gradeBy K op (K .grade l) (K .grade r)) refl
+  where
+    go : (a : Option Dimensions) → K .dims l ≡ a → (b : Option Dimensions) → K .dims r ≡ b → (p : Bool) → point K l ≡ p → (q : Bool) → point K r ≡ q
+        → (g : Grade) → rule.gradeBy K op (K .grade l) (K .grade r) ≡ g → besides x ≡ D.one
+    go none ea b eb p ep q eq g eg = let z : Same (UnresolvedDimensions l) x = rw ea at e in cc
+    go (some a) ea none eb p ep q eq g eg = let z : Same (UnresolvedDimensions r) x = rw (ea, eb) at e in cc
+    go (some a) ea (some b) eb true ep q eq g eg = let z : Same (Point l op r l) x = rw (ea, eb, ep) at e in cc
+    go (some a) ea (some b) eb false ep true eq g eg = let z : Same (Point l op r r) x = rw (ea, eb, ep, eq) at e in cc
+    go (some a) ea (some b) eb false ep false eq Absent eg = let z : Same (Ungraded l r (K .grade l) (K .grade r)) x = rw (ea, eb, ep, eq, eg) at e in cc
+    go (some a) ea (some b) eb false ep false eq (Single g) eg = let z : given (at (rule.joined op a b) g) ≡ refused x = rw (ea, eb, ep, eq, eg) at e in cc

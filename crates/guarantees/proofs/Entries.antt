@@ -16,7 +16,6 @@ use Rattle.rules.specs.Kinds.{sameOp}
 use Rattle.rules.specs.Catalog.{Row, Catalog, find, names, covers}
 use Rattle.rules.specs.Table.{word, isRow, rowWords, entriesOf, entriesIn}
 use Rattle.guarantees.proofs.RowRules.{Accepted}
-use Rattle.guarantees.proofs.Compiles.{Passed}
 
 -- ---- rows appended
 module _ (s e : List ℕ) (m : ℕ) (four : length s ≡ 4 * m) where
@@ -106,8 +105,21 @@ twice false true q f false = refl
 twice false false q f true = refl
 twice false false q f false = refl
 
+-- ---- what an accepted row enters
+module _ (C : Catalog) (n : ℕ) (a : Accepted C n) where
+  abbrev pub single : List ℕ
+  single = rowWords (a .left) (C .row n .op) (a .right) (a .result)
+
+  abbrev pub double : List ℕ
+  double = rowWords (a .left) (C .row n .op) (a .right) (a .result) ++ rowWords (a .right) (C .row n .op) (a .left) (a .result)
+
+  pub entries-are : (t : Bool) → (C .row n .commutative && not (eqb (a .left) (a .right))) ≡ t → entriesOf C (C .row n) ≡ cond t double single
+  unfolding entriesOf
+  entries-are true u = rw (a .finds-left, a .finds-right, a .finds-result, u)
+  entries-are false u = rw (a .finds-left, a .finds-right, a .finds-result, u)
+
 -- ---- what the first entry for a pair says is what the first row for it says
-module _ (C : Catalog) (passed : Passed C) (l : ℕ) (op : ProductOp) (r : ℕ) where
+module _ (C : Catalog) (l : ℕ) (op : ProductOp) (r : ℕ) where
   abbrev pub Agrees : Option ℕ → List ℕ → ℕ → Type 0
   Agrees none s m = first (isRow s l op r) m ≡ none
   Agrees (some j) s m = (i : ℕ) × (first (isRow s l op r) m ≡ some i) × (find C (C .row j .result) ≡ some (word s (4 * i + 3)))
@@ -121,17 +133,6 @@ module _ (C : Catalog) (passed : Passed C) (l : ℕ) (op : ProductOp) (r : ℕ) 
 
     abbrev pub there : Bool
     there = eqb (a .right) l && sameOp (x .op) op && eqb (a .left) r
-
-    abbrev pub single : List ℕ
-    single = rowWords (a .left) (x .op) (a .right) (a .result)
-
-    abbrev pub double : List ℕ
-    double = rowWords (a .left) (x .op) (a .right) (a .result) ++ rowWords (a .right) (x .op) (a .left) (a .result)
-
-    pub entries-are : (t : Bool) → (x .commutative && not (eqb (a .left) (a .right))) ≡ t → entriesOf C x ≡ cond t double single
-    unfolding entriesOf
-    entries-are true u = rw (a .finds-left, a .finds-right, a .finds-result, u)
-    entries-are false u = rw (a .finds-left, a .finds-right, a .finds-result, u)
 
     pub covers-once : (x .commutative && not (eqb (a .left) (a .right))) ≡ false → covers C l op r x ≡ here
     unfolding covers names
@@ -149,16 +150,16 @@ module _ (C : Catalog) (passed : Passed C) (l : ℕ) (op : ProductOp) (r : ℕ) 
     covers-twice p = rw (a .finds-left, a .finds-right, p) (twice (sameOp (x .op) op) (eqb (a .left) l) (eqb (a .right) r) (eqb (a .left) r) (eqb (a .right) l))
 
     -- the first entry, and the second
-    pub first-entry : (e : List ℕ) → isRow (s ++ (single ++ e)) l op r m ≡ here
+    pub first-entry : (e : List ℕ) → isRow (s ++ (single C n a ++ e)) l op r m ≡ here
     unfolding isRow
-    first-entry e = let z : m + 0 ≡ m = omega arith in rw z at (back-row l op r s (single ++ e) m four 0)
+    first-entry e = let z : m + 0 ≡ m = omega arith in rw z at (back-row l op r s (single C n a ++ e) m four 0)
 
-    pub second-entry : isRow (s ++ double) l op r (m + 1) ≡ there
+    pub second-entry : isRow (s ++ double C n a) l op r (m + 1) ≡ there
     unfolding isRow
-    second-entry = back-row l op r s double m four 1
+    second-entry = back-row l op r s (double C n a) m four 1
 
-    pub first-result : (e : List ℕ) → word (s ++ (single ++ e)) (4 * m + 3) ≡ a .result
-    first-result e = let z : m + 0 ≡ m = omega arith in rw z at (back-word s (single ++ e) m four 0 3)
+    pub first-result : (e : List ℕ) → word (s ++ (single C n a ++ e)) (4 * m + 3) ≡ a .result
+    first-result e = let z : m + 0 ≡ m = omega arith in rw z at (back-word s (single C n a ++ e) m four 0 3)
 
-    pub second-result : word (s ++ double) (4 * (m + 1) + 3) ≡ a .result
-    second-result = back-word s double m four 1 3
+    pub second-result : word (s ++ double C n a) (4 * (m + 1) + 3) ≡ a .result
+    second-result = back-word s (double C n a) m four 1 3

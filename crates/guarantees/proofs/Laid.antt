@@ -14,7 +14,7 @@ use Rattle.laws.proofs.Cases.{or-neither}
 use Rattle.laws.proofs.Checks.{then-given, refuse-given}
 use Rattle.laws.proofs.First.{first-misses}
 use Rattle.rules.specs.Layout.{kindCount, rowCount, blocksBy, headerWrong, kindWrong, blockWrong, byteWrong}
-use Rattle.rules.specs.Refusal.{Refusal, ImageLength}
+use Rattle.rules.specs.Refusal.{Refusal, ImageLength, Short}
 use Rattle.rules.specs.Catalog.{catalogIn, kindAt}
 use Rattle.rules.specs.Compile.{Compiled, compile}
 use Rattle.rules.specs.Image.{lengthWrong, lengthCheck, roomCheck, refuseFirst, blocksCheck, schemaCheck, layoutCheck, readable, lentCheck, compileImage}
@@ -40,20 +40,29 @@ first-given wrong n x e = go (first wrong n) refl
     go none p = p
     go (some i) p = let z : true ≡ false = cc in absurd (true≢false z)
 
-pub image-tells : (s : List ℕ) (room : ℕ) (c : Compiled) → compileImage s room ≡ given c → LaidOut s × (compile (catalogIn s) ≡ given c)
-unfolding compileImage lentCheck lengthCheck readable layoutCheck
-image-tells s room c e =
-    let d = then-given (lentCheck s room) _ e in
-    let a = then-given (lengthCheck s) _ (d .1) in
+pub lent-tells : (s : List ℕ) (room : ℕ) {u : Unit {0}} → lentCheck s room ≡ given u → LaidOut s
+unfolding lentCheck lengthCheck readable layoutCheck
+lent-tells s room e =
+    let a = then-given (lengthCheck s) _ e in
     let b = then-given (roomCheck room) _ (a .2) in
     let f = then-given (blocksCheck s) _ (b .2) in
-    let g = then-given (schemaCheck s) _ (f .2) in (
-      record {
-        blocks = long s (refuse-given (lengthWrong s) _ (at-given 0 (refuseIf (lengthWrong s) (ImageLength (length s))) (a .1)));
-        bytes = λ i h. first-misses (byteWrong s) (length s) i (first-given (byteWrong s) (length s) _ (g .2)) h;
-      },
-      d .2,
-    )
+    let g = then-given (schemaCheck s) _ (f .2) in
+    record {
+      blocks = long s (refuse-given (lengthWrong s) _ (at-given 0 (refuseIf (lengthWrong s) (ImageLength (length s))) (a .1)));
+      bytes = λ i h. first-misses (byteWrong s) (length s) i (first-given (byteWrong s) (length s) _ (g .2)) h;
+    }
+
+-- and 5 does not refuse the table lent for it
+pub lent-room : (s : List ℕ) (room : ℕ) {u : Unit {0}} → lentCheck s room ≡ given u → 9296 ≤ room
+unfolding lentCheck roomCheck
+lent-room s room e =
+    let a = then-given (lengthCheck s) _ e in
+    let b = then-given (roomCheck room) _ (a .2) in
+    ltb-false room 9296 (refuse-given (ltb room 9296) _ (at-given 0 (refuseIf (ltb room 9296) (Short room)) (b .1)))
+
+pub image-tells : (s : List ℕ) (room : ℕ) (c : Compiled) → compileImage s room ≡ given c → LaidOut s × (compile (catalogIn s) ≡ given c)
+unfolding compileImage
+image-tells s room c e = let d = then-given (lentCheck s room) _ e in (lent-tells s room (d .1), d .2)
 
 module _ (s : List ℕ) (laid : LaidOut s) where
   -- "a length that the counts don't give" is charged to byte 8

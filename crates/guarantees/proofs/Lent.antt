@@ -4,22 +4,21 @@ use Prim.Native.Nat.{ℕ, _<_, _≤_}
 use mathlib.Core.Path.{_≡_, refl, sym, _∙_, ap, subst}
 use mathlib.Core.List.{List}
 use mathlib.Core.Option.{some}
-use lib.Dec.{ltb}
 use lib.ListN.{length}
-use borrow.Author.Tests.{le-ltb, lt-ltb, ltb-false}
-use Rattle.laws.specs.Out.{given, refused, refuseIf}
+use borrow.Author.Tests.{le-ltb, lt-ltb}
+use Rattle.laws.specs.Out.{given, refused}
 use Rattle.laws.specs.Ranges.{overlay}
-use Rattle.laws.proofs.Checks.{then-given, refuse-given}
+use Rattle.laws.proofs.Checks.{then-given}
 use Rattle.laws.proofs.Overlay.{overlay-length}
 use Rattle.laws.proofs.Tab.{length-tab}
 use Rattle.dimension.specs.declared.grade.ProductOp.{ProductOp}
 use Rattle.dimension.specs.declared.grade.ProductOp.the-variants.{Mul, Div, Dot, Wedge}
 use Rattle.rules.specs.Kinds.{Kinds}
-use Rattle.rules.specs.Refusal.{Refusal, Answer, Fault, at, Short, NoProductKind, codeOf}
+use Rattle.rules.specs.Refusal.{Refusal, Answer, Fault, at, NoProductKind, codeOf}
 use Rattle.rules.specs.Arithmetic as rule
 use Rattle.rules.specs.Catalog.{catalogIn}
 use Rattle.rules.specs.Compile.{Compiled}
-use Rattle.rules.specs.Image.{lengthCheck, roomCheck, compileImage, tableAfter, lentCheck}
+use Rattle.rules.specs.Image.{compileImage, tableAfter, lentCheck}
 use Rattle.rules.specs.Table.{ownRows, tableWord, tableWords}
 use Rattle.rules.specs.Table as table
 use Rattle.rules.specs.Lookup.{roomy, tabled, combine}
@@ -27,8 +26,7 @@ use Rattle.rules.specs.Call.{formulaIn, call}
 use Rattle.guarantees.specs.Demand3.{Exactly45}
 use Rattle.guarantees.specs.Images.{Bytes}
 use Rattle.guarantees.specs.Calls.{callOver, productOver, fault, LookupExactly45}
-use Rattle.guarantees.proofs.Given.{at-given}
-use Rattle.guarantees.proofs.Laid.{LaidOut, image-tells, few-kinds, few-rows}
+use Rattle.guarantees.proofs.Laid.{LaidOut, image-tells, lent-room, few-kinds, few-rows}
 use Rattle.guarantees.proofs.Declares.{quiet, grades, exponents}
 use Rattle.guarantees.proofs.Images.{image-passes, image-compiled}
 use Rattle.guarantees.proofs.Written.{Holds, written-holds}
@@ -50,12 +48,8 @@ module _ (s old : List ℕ) (bytes : Bytes s) (c : Compiled) (e : compileImage s
   after = rw (tableAfter, e)
 
   room : 9296 ≤ length old
-  unfolding compileImage lentCheck roomCheck
-  room =
-      let d = then-given (lentCheck s (length old)) _ e in
-      let a = then-given (lengthCheck s) _ (d .1) in
-      let b = then-given (roomCheck (length old)) _ (a .2) in
-      ltb-false (length old) 9296 (refuse-given (ltb (length old) 9296) _ (at-given 0 (refuseIf (ltb (length old) 9296) (Short (length old))) (b .1)))
+  unfolding compileImage
+  room = lent-room s (length old) (then-given (lentCheck s (length old)) _ e .1)
 
   words-long : length (tableWords (catalogIn s)) ≡ 9296
   unfolding tableWords

@@ -36,7 +36,7 @@ pub mod InRange
 -- demand 3
 pub mod Shown
 -- what compilation tells
-mod Given
+pub mod Given
 pub mod KindRules
 mod Turned
 pub mod RowRules
@@ -51,7 +51,7 @@ pub mod Needed
 -- the table that a compilation writes is read as what it came to
 pub mod Written
 pub mod ReadBack
-mod Entries
+pub mod Entries
 pub mod InForce
 mod EntriesIn
 pub mod IsTable

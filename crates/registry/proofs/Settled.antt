@@ -1,17 +1,13 @@
 -- A product's answer, from the derivation on: one law a return. Assumes nothing.
 use Prim.Native.Nat.{ℕ}
 use mathlib.Core.Path.{_≡_, refl, sym, _∙_, ap}
-use mathlib.Core.Bool.{Bool, true, false}
 use mathlib.Core.Option.{Option, some, none}
-use lib.ListN.{length}
 use Rattle.laws.specs.Options.{found}
-use Rattle.laws.specs.Out.{given, refused, known}
+use Rattle.laws.specs.Out.{refused, known}
 use Rattle.dimension.specs.Dimension as D
 use Rattle.dimension.specs.declared.dimensions.Dimensions.{Dimensions}
 use Rattle.dimension.specs.declared.grade.ProductOp.{ProductOp}
-use Rattle.dimension.specs.declared.grade.Grade.{Grade}
-use Rattle.dimension.specs.declared.grade.Grade.the-variants.{Single, Absent}
-use Rattle.rules.specs.Kinds.{Kinds, Rows, Graded, point, candidates}
+use Rattle.rules.specs.Kinds.{Kinds, Rows, Graded, candidates}
 use Rattle.rules.specs.Refusal as why
 use Rattle.rules.specs.Refusal.{told, codeOf}
 use Rattle.rules.specs.Arithmetic as rule
@@ -28,27 +24,9 @@ use Rattle.derive.specs.declared.derivation.Derivation.{Derivation}
 use Rattle.derive.specs.declared.derivation.Ruling.the-variants as ruling
 use Rattle.derive.specs.declared.resolution.Resolved.{Resolved}
 use Rattle.derive.specs.declared.resolution.Resolved.the-variants.{Is, Twins, Nothing}
-use Rattle.derive.proofs.Derives.{fine-told, refused-told}
+use Rattle.derive.proofs.Derives.{fine-told, refused-told, plain-refusal}
 use Rattle.derive.proofs.Resolves.{is-told, nothing-told, resolve-told}
 use Rattle.registry.specs.Shown.{looked, kindAs, no, settledAs}
-
--- ---- what a derivation is refused for returns no dimensions
--- one refusal is another
-abbrev Same : why.Refusal → why.Refusal → Type 0
-Same y x = _≡_ {A = why.Answer Graded} (refused y) (refused x)
-
-plain-refusal : (K : Kinds) (l : ℕ) (op : ProductOp) (r : ℕ) (x : why.Refusal) → rule.derive K l op r ≡ refused x → besides x ≡ D.one
-unfolding rule.derive rule.operand rule.graded told
-plain-refusal K l op r x e = go (K .dims l) refl (K .dims r) refl (point K l) refl (point K r) refl (rule.gradeBy K op (K .grade l) (K .grade r)) refl
-  where
-    go : (a : Option Dimensions) → K .dims l ≡ a → (b : Option Dimensions) → K .dims r ≡ b → (p : Bool) → point K l ≡ p → (q : Bool) → point K r ≡ q
-        → (g : Grade) → rule.gradeBy K op (K .grade l) (K .grade r) ≡ g → besides x ≡ D.one
-    go none ea b eb p ep q eq g eg = let z : Same (why.UnresolvedDimensions l) x = rw ea at e in cc
-    go (some a) ea none eb p ep q eq g eg = let z : Same (why.UnresolvedDimensions r) x = rw (ea, eb) at e in cc
-    go (some a) ea (some b) eb true ep q eq g eg = let z : Same (why.Point l op r l) x = rw (ea, eb, ep) at e in cc
-    go (some a) ea (some b) eb false ep true eq g eg = let z : Same (why.Point l op r r) x = rw (ea, eb, ep, eq) at e in cc
-    go (some a) ea (some b) eb false ep false eq Absent eg = let z : Same (why.Ungraded l r (K .grade l) (K .grade r)) x = rw (ea, eb, ep, eq, eg) at e in cc
-    go (some a) ea (some b) eb false ep false eq (Single g) eg = let z : given (at (rule.joined op a b) g) ≡ refused x = rw (ea, eb, ep, eq, eg) at e in cc
 
 -- ---- several kinds fit: the row's, or 44
 module _ (o : Option ℕ) {u : Link} {v : Answer} where

@@ -1,0 +1,103 @@
+// An image compiled: checked, its words made, the rules asked in document 01's order, and the words copied into the lent table.
+use crate::answers::passed;
+use crate::kinds::Rule;
+use crate::kinds::check_kinds;
+use crate::links::check_dimensionless;
+use crate::links::check_time;
+use crate::rows::check_rows;
+use error::Answer;
+use error::Verdict;
+use image::check_lent;
+use written::table_words;
+ghost use mathlib.Core.Path.{_≡_};
+ghost use Prim.Native.Nat.{_≤_};
+ghost use lib.ListN.{length};
+ghost use Rattle.laws.specs.Ranges.{overlay};
+ghost use Rattle.error.specs.Shown.{fine};
+ghost use Rattle.rules.specs.Layout as layout;
+ghost use Rattle.rules.specs.Catalog.{catalogIn};
+ghost use Rattle.rules.specs.Compile as rule;
+ghost use Rattle.rules.specs.Image.{compileImage, tableAfter};
+ghost use Rattle.rules.specs.Table as T;
+ghost use Rattle.written.specs.Shown.{linksFor};
+ghost use Rattle.compile.specs.Shown.{Reads, kindsRuled, compiled};
+
+// The rules of kinds: ids, differences, the dimensionless kind, time, rates.
+fn check_declared(image: &[u8], t: &[u32]) -> Answer
+    requires { ⌜ Reads (now t) (now image) ⌝ }
+    ensures { λ r. ⌜ r ≡ fine (kindsRuled (catalogIn (now (image .entry)))) ⌝ }
+{
+    let ids = check_kinds(image, t, Rule::Id);
+    let told_ids = ids.verdict;
+    if let Verdict::Refused(e) = told_ids {
+        return ids;
+    }
+    let differences = check_kinds(image, t, Rule::Difference);
+    let told_differences = differences.verdict;
+    if let Verdict::Refused(e) = told_differences {
+        return differences;
+    }
+    let neutral = check_dimensionless(image, t);
+    let told_neutral = neutral.verdict;
+    if let Verdict::Refused(e) = told_neutral {
+        return neutral;
+    }
+    let instant = check_time(image, t);
+    let told_instant = instant.verdict;
+    if let Verdict::Refused(e) = told_instant {
+        return instant;
+    }
+    check_kinds(image, t, Rule::Rate)
+}
+
+// 10 to 27.
+fn check_rules(image: &[u8], t: &[u32], links: &[u16]) -> Answer
+    requires { ⌜ now t ≡ T.tableWords (catalogIn (now image)) ⌝ }
+    requires { ⌜ Reads (now t) (now image) ⌝ }
+    requires { ⌜ now links ≡ linksFor (now image) ⌝ }
+    requires { ⌜ layout.kindCount (now image) ≤ 240 ⌝ }
+    requires { ⌜ layout.rowCount (now image) ≤ 200 ⌝ }
+    ensures { λ r. ⌜ r ≡ fine (rule.compiles (catalogIn (now (image .entry)))) ⌝ }
+{
+    let kinds = check_declared(image, t);
+    let verdict = kinds.verdict;
+    if let Verdict::Refused(e) = verdict {
+        return kinds;
+    }
+    check_rows(image, t, links)
+}
+
+// Puts all words in front of what the table holds.
+fn copy(words: &[u32], table: &mut [u32])
+    requires { ⌜ length (now words) ≤ length (now table) ⌝ }
+    ensures { λ _. ⌜ now (table .exit) ≡ overlay (now (words .entry)) (now (table .entry)) ⌝ }
+{
+    let n = words.len();
+    let mut i: usize = 0;
+    while i < n {
+        table[i] = words[i];
+        i += 1;
+    }
+}
+
+// Fine, and the table's first 9,296 words are written; or refused, and the table is as it was.
+pub fn compile(image: &[u8], table: &mut [u32]) -> Answer
+    ensures { λ r. ⌜ r ≡ compiled (compileImage (now (image .entry)) (length (now (table .entry)))) ⌝ }
+    ensures { λ _. ⌜ now (table .exit) ≡ tableAfter (now (image .entry)) (now (table .entry)) ⌝ }
+{
+    let lent = check_lent(image, table.len());
+    let told_lent = lent.verdict;
+    if let Verdict::Refused(e) = told_lent {
+        return lent;
+    }
+    let written = table_words(image);
+    let words = written.words;
+    let links = written.links;
+    let rules = check_rules(image, &words, &links);
+    let told_rules = rules.verdict;
+    if let Verdict::Refused(e) = told_rules {
+        return rules;
+    }
+    copy(&words, table);
+    passed()
+}
