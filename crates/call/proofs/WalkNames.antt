@@ -1,14 +1,14 @@
 -- A refusal in a formula names its twins: each step's does, so the walk's does. Assumes nothing.
 use Prim.Native.Nat.{ℕ, suc, _≤_}
 use mathlib.Core.Path.{_≡_, refl}
-use mathlib.Core.Bool.{Bool, true, false, cond, not}
+use mathlib.Core.Bool.{Bool, true, false, cond}
 use mathlib.Core.List.{List, [], _∷_}
 use mathlib.Core.Option.{Option, some, none}
 use borrow.Author.Tests.{le-ltb}
 use lib.Dec.{ltb}
 use lib.ListN.{length}
 use Rattle.laws.specs.Options.{found}
-use Rattle.laws.specs.Out.{Out, given, refused, mapped, refuseIf}
+use Rattle.laws.specs.Out.{given, refused, mapped, refuseIf}
 use Rattle.dimension.specs.declared.grade.ProductOp.the-variants.{Mul, Div, Dot, Wedge}
 use Rattle.rules.specs.Kinds.{Kinds, Rows, point}
 use Rattle.rules.specs.Refusal as why
@@ -17,7 +17,6 @@ use Rattle.rules.specs.Arithmetic as arithmetic
 use Rattle.rules.specs.Formula as rule
 use Rattle.rules.specs.Token.{tokensIn, goodLength}
 use Rattle.rules.specs.Call.{ending, formulaIn}
-use Rattle.error.specs.Shown.{errorOf}
 use Rattle.derive.specs.Shown.{roomListed}
 use Rattle.lookup.specs.Shown.{named, nameOf, twinsOf}
 use Rattle.lookup.proofs.NamedTwins.{Names, names-next, if-names, indexed-names, agree-names, combine-names, power-names}

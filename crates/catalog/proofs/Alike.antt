@@ -1,12 +1,12 @@
 -- An id is blank, and two ids are the same, just where a search for a byte that says otherwise finds none. Assumes nothing.
 use Prim.Native.Nat.{ℕ, zero, suc, _+_}
-use mathlib.Core.Path.{_≡_, refl, sym, _∙_, ap}
-use mathlib.Core.Bool.{Bool, true, false, not, cond, _&&_}
+use mathlib.Core.Path.{_≡_, refl, sym, _∙_}
+use mathlib.Core.Bool.{Bool, true, false, not, _&&_}
 use mathlib.Core.List.{List, [], _∷_, _++_}
 use mathlib.Core.Option.{Option, some, none}
 use lib.Dec.{eqb}
 use lib.ListN.{length}
-use Rattle.laws.specs.Options.{found, orElse}
+use Rattle.laws.specs.Options.{found}
 use Rattle.laws.specs.Ranges.{first, tab}
 use Rattle.laws.proofs.Tab.{length-tab}
 use Rattle.rules.specs.Bytes.{byte}

@@ -3,7 +3,7 @@ use Prim.Native.Nat.{ℕ, _+_, _*_, _<_}
 use mathlib.Core.Path.{_≡_, refl, sym, _∙_, subst}
 use mathlib.Core.Bool.{Bool, true, false, cond}
 use mathlib.Core.List.{List, [], _∷_}
-use mathlib.Core.Option.{Option, some, none}
+use mathlib.Core.Option.{some, none}
 use native.Mathlib.Omega.{arith}
 use borrow.Author.Tests.{lt-ltb}
 use lib.Dec.{eqb}
@@ -20,7 +20,7 @@ use Rattle.dimension.specs.declared.grade.ProductOp.the-variants.{Mul, Div, Dot
 use Rattle.rules.specs.Kinds.{opOf}
 use Rattle.rules.specs.Bytes.{byte}
 use Rattle.rules.specs.Layout.{kindCount}
-use Rattle.rules.specs.Catalog.{Kind, Catalog, Id, noKind, orZero, blank, same, idAt, exponentAt, dimsAt, kindFrom, kindAt, catalogIn, find, link}
+use Rattle.rules.specs.Catalog.{Catalog, Id, orZero, blank, same, idAt, exponentAt, dimsAt, kindFrom, kindAt, catalogIn, find, link}
 use Rattle.error.specs.Shown.{linked}
 use Rattle.error.specs.declared.answer.Link.{Link}
 use Rattle.error.specs.declared.answer.Link.the-variants.{To, Nowhere}

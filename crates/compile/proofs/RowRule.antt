@@ -32,7 +32,7 @@ use Rattle.compile.specs.Shown.{ruled, ruledAll, Reads}
 use Rattle.compile.specs.declared.rows.Row.{Row}
 use Rattle.compile.specs.Rows.{rowOf, isNamed, freshIn, pairFresh, orSeveral, rowSeveral, rowFits, rowDerived, rowNamed, rowBy}
 use Rattle.compile.proofs.Prefix.{used-front, used-next}
-use Rattle.compile.proofs.EachRule.{ruled-stop, ruled-next}
+use Rattle.compile.proofs.EachRecord.{given-told, all-here, all-next}
 
 bind-same : {E A B : Type 0} (m : Out E A) (f g : A → Out E B) → ((a : A) → f a ≡ g a) → (m >>= f) ≡ (m >>= g)
 bind-same (given a) f g h = h a
@@ -121,8 +121,8 @@ module _ (s : List ℕ) (kinds : kindCount s ≤ 240) (rows : rowCount s ≤ 200
     turn = e ∙ rw (reads, f, used-front C i (omega arith) rows u words) (ap (ruled i) (rule-same C i kinds (accepted p)))
 
     pub turn-stop : {y : Error} → v .verdict ≡ Refused y → v ≡ ruledAll (rowRule C) (rowCount s)
-    turn-stop q = ruled-stop (rowRule C) i turn (rowCount s) p h q
+    turn-stop q = all-here (rowRule C) i (rowCount s) refl p h turn q
 
     pub turn-next : {w : ℕ} → ((y : Error) → v .verdict ≡ Refused y → ⊥) → w ≡ cond (x .commutative && not (eqb (x .left) (x .right))) 8 4
         → (used + w ≡ 7696 + length (entriesIn C (i + 1))) × (eachRecord C (rowRule C) (i + 1) ≡ given tt)
-    turn-next g k = let n = ruled-next (rowRule C) i turn g p in (used-next C i (row-tells C i (n .0)) u f k, n .1)
+    turn-next g k = (used-next C i (row-tells C i (given-told i (rowRule C i) turn g)) u f k, all-next (rowRule C) i p turn g)

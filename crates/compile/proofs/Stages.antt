@@ -1,10 +1,9 @@
 -- One stage of a compilation after the other: it is refused, or what the next answers. a is what a stage answered. Assumes nothing.
 use Prim.Native.Nat.{ℕ}
-use mathlib.Core.Path.{_≡_, refl, sym, _∙_, ap}
-use mathlib.Core.Bool.{true, false, true≢false}
+use mathlib.Core.Path.{_≡_, refl, _∙_, ap}
 use mathlib.Core.List.{List}
 use lib.ListN.{length}
-use Rattle.laws.specs.Out.{Out, given, refused, _>>_}
+use Rattle.laws.specs.Out.{given, refused, _>>_}
 use Rattle.laws.specs.Ranges.{overlay}
 use Rattle.dimension.specs.Dimension as D
 use Rattle.rules.specs.Layout.{kindCount, rowCount}
@@ -15,34 +14,19 @@ use Rattle.rules.specs.Image.{lentCheck, compileImage, tableAfter}
 use Rattle.rules.specs.Table.{tableWords}
 use Rattle.error.specs.Shown.{answer, fine}
 use Rattle.error.specs.declared.answer.Answer.{Answer}
-use Rattle.error.specs.declared.answer.Verdict.{Verdict}
 use Rattle.error.specs.declared.answer.Verdict.the-variants.{Fine, Refused}
 use Rattle.error.specs.declared.cause.Error.{Error}
 use Rattle.compile.specs.Shown.{ruled, ruledAll, kindsRuled, compiled}
 use Rattle.compile.specs.Asked.{asked}
 use Rattle.compile.specs.declared.kinds.Rule.{Rule}
+use Rattle.compile.proofs.Told.{NotRefused, fine-refused, fine-given}
 
--- ---- a check that is refused, and one that is not
-abbrev pub NotRefused : Verdict → Type 0
-NotRefused v = (x : Error) → v ≡ Refused x → ⊥
+module _ {a : Answer} (m n : Placed (Unit {0})) (e : a ≡ fine m) where
+  pub stage-refused : {x : Error} → a .verdict ≡ Refused x → a ≡ fine (m >> n)
+  stage-refused p = let f = fine-refused m e p in e ∙ rw (f .1)
 
-module _ {a : Answer} where
-  pub fine-refused : (m : Placed (Unit {0})) {x : Error} → a ≡ fine m → a .verdict ≡ Refused x → (f : Fault) × (m ≡ refused f)
-  unfolding fine
-  fine-refused (given u) {x} e p = let z : Fine ≡ Refused x = sym (ap (λ (b : Answer). b .verdict) e) ∙ p in let y : true ≡ false = cc in absurd (true≢false y)
-  fine-refused (refused f) e p = (f, refl)
-
-  pub fine-given : (m : Placed (Unit {0})) → a ≡ fine m → NotRefused (a .verdict) → m ≡ given tt
-  unfolding fine
-  fine-given (given u) e n = refl
-  fine-given (refused f) e n = absurd (n _ (ap (λ (b : Answer). b .verdict) e))
-
-  module _ (m n : Placed (Unit {0})) (e : a ≡ fine m) where
-    pub stage-refused : {x : Error} → a .verdict ≡ Refused x → a ≡ fine (m >> n)
-    stage-refused p = let f = fine-refused m e p in e ∙ rw (f .1)
-
-    pub stage-passed : {v : Answer} → NotRefused (a .verdict) → v ≡ fine n → v ≡ fine (m >> n)
-    stage-passed p h = rw (fine-given m e p) h
+  pub stage-passed : {v : Answer} → NotRefused (a .verdict) → v ≡ fine n → v ≡ fine (m >> n)
+  stage-passed p h = rw (fine-given m e p) h
 
 -- ---- the rules of kinds, then those of rows
 after : (m n o : Placed (Unit {0})) → ((m >> n) >> o) ≡ (m >> (n >> o))

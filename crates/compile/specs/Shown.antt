@@ -6,7 +6,7 @@ use mathlib.Core.List.{List}
 use mathlib.Core.Option.{some}
 use lib.Dec.{eqb}
 use Rattle.laws.specs.Options.{isSome}
-use Rattle.laws.specs.Out.{given, refused, _>>=_, _>>_, refuseIf, refuseFound, needed, each}
+use Rattle.laws.specs.Out.{given, _>>=_, _>>_, refuseIf, refuseFound, needed, each}
 use Rattle.laws.specs.Ranges.{first}
 use Rattle.dimension.specs.Dimension as D
 use Rattle.dimension.specs.declared.dimensions.Dimensions.{Dimensions}

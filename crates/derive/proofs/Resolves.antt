@@ -1,6 +1,6 @@
 -- A resolution in code: what it tells of the rules' (`resolutions`), and how a link that is known meets it (`known`). Assumes nothing.
 use Prim.Native.Nat.{ℕ}
-use mathlib.Core.Path.{_≡_, refl, sym, _∙_, ap}
+use mathlib.Core.Path.{_≡_, refl, _∙_, ap}
 use mathlib.Core.Bool.{true, false, true≢false}
 use mathlib.Core.List.{List, [], _∷_}
 use mathlib.Core.Option.{Option, some, none}

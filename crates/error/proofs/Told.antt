@@ -1,7 +1,6 @@
 -- The code's numbers are those of the rules: whatever refusal of the rules a case of code stands for, it has that refusal's number and values, and
 -- dimensions are returned with it exactly where the rules return them.
 use mathlib.Core.Path.{_≡_, refl}
-use mathlib.Core.Bool.{Bool}
 use Rattle.laws.specs.Options.{isSome}
 use Rattle.rules.specs.Refusal.{Refusal, told, ImageLength, WrongBlock, Schema, WrongByte, Short, EmptyId, Duplicate, Unknown, AffineDimensionMismatch, NestedAffineSpace, InvalidDimensionlessKind, InvalidTimeKind, NoTimeKind, PointRate, UnresolvedDimensions, RateMismatch, AlsoRateOf, CommutativeQuotient, Point, Ungraded, InvalidOperationRule, DerivedOperationRule, ConflictingOperationRule, PowerOverLimits, NoTable, NoKind, KindMismatch, UnsupportedOperation, UnresolvedTwin, NoProductKind, UngradedPower, NoPowerKind, UnresolvedPowerTwin, NumberTerm, Malformed}
 use Rattle.error.specs.Shown.{errorOf, says, saidOf, hasDims}

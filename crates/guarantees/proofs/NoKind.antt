@@ -6,7 +6,7 @@ use mathlib.Core.Bool.{true, false, true≢false}
 use mathlib.Core.List.{List, [], _∷_}
 use mathlib.Core.Option.{Option, some, none}
 use Rattle.laws.specs.Options.{orElse}
-use Rattle.laws.specs.Out.{Out, given, refused, known}
+use Rattle.laws.specs.Out.{given, refused}
 use Rattle.dimension.specs.declared.grade.ProductOp.{ProductOp}
 use Rattle.rules.specs.Kinds.{Kinds, Rows, Graded, candidates}
 use Rattle.rules.specs.Refusal.{Answer, NoProductKind, UnresolvedTwin}

@@ -2,13 +2,13 @@
 use Prim.Native.Nat.{ℕ, _≤_}
 use mathlib.Core.Path.{_≡_, refl, sym, _∙_, ap}
 use mathlib.Core.Bool.{Bool, true, false, cond, not}
-use mathlib.Core.List.{List, []}
+use mathlib.Core.List.{List}
 use mathlib.Core.Option.{Option, some, none}
 use borrow.Author.Tests.{le-ltb}
 use lib.Dec.{ltb, eqb}
 use lib.ListN.{length}
-use Rattle.laws.specs.Options.{found, orElse}
-use Rattle.laws.specs.Out.{Out, given, refused, known, needed, refuseIf, _>>=_, _>>_}
+use Rattle.laws.specs.Options.{orElse}
+use Rattle.laws.specs.Out.{given, refused, known, needed, refuseIf, _>>=_, _>>_}
 use Rattle.dimension.specs.Fraction as F
 use Rattle.dimension.specs.Dimension as D
 use Rattle.dimension.specs.declared.rational.Rational.{Rational}
@@ -25,7 +25,7 @@ use Rattle.rules.specs.Refusal.{Refusal, Answer, told, codeOf, twinsAfter}
 use Rattle.rules.specs.Arithmetic as rule
 use Rattle.rules.specs.Lookup as lone
 use Rattle.error.specs.Shown.{errorOf}
-use Rattle.derive.specs.Shown.{at, dimsAt, roomListed}
+use Rattle.derive.specs.Shown.{at, roomListed}
 use Rattle.derive.proofs.Resolves.{fitting-all}
 use Rattle.registry.specs.Shown.{looked}
 use Rattle.lookup.specs.Shown.{opBy, named, nameOf, fitsDerived, twinsOf, indexedCombine, indexedPower, powerBy}

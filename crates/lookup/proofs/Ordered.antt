@@ -1,13 +1,13 @@
 -- 50, 41, 41 and then the lookup: one law a return. Assumes nothing.
 use Prim.Native.Nat.{ℕ, zero, suc, _<_, _≤_}
-use mathlib.Core.Path.{_≡_, refl, sym, _∙_, ap}
-use mathlib.Core.Bool.{Bool, true, false, true≢false, not, _||_}
+use mathlib.Core.Path.{_≡_, refl, _∙_}
+use mathlib.Core.Bool.{true, false, true≢false, _||_}
 use mathlib.Core.Option.{Option, some, none}
 use lib.Dec.{ltb}
 use lib.IntN.{ℤ}
 use native.Mathlib.Omega.{arith}
 use borrow.Author.Tests.{lt-ltb, le-ltb, ltb-false}
-use Rattle.laws.specs.Out.{given, refused, needed, _>>=_, _>>_}
+use Rattle.laws.specs.Out.{needed, _>>=_, _>>_}
 use Rattle.laws.proofs.Cases.{or-neither}
 use Rattle.dimension.specs.Fraction as F
 use Rattle.dimension.specs.declared.rational.Rational.{Rational}
@@ -21,7 +21,7 @@ use Rattle.rules.specs.Arithmetic as rule
 use Rattle.rules.specs.Lookup as lone
 use Rattle.error.specs.declared.answer.Answer.{Answer}
 use Rattle.error.specs.declared.cause.Error.the-variants as cause
-use Rattle.registry.specs.Shown.{looked, kindAs, no, combineBy}
+use Rattle.registry.specs.Shown.{looked, no, combineBy}
 use Rattle.lookup.specs.Shown.{indexedCombine, indexedPower, powerBy, exponentOf}
 use Rattle.lookup.specs.declared.lone.Exponent.{Exponent}
 use Rattle.lookup.specs.declared.lone.Exponent.the-variants as exponent

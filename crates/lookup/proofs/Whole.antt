@@ -1,12 +1,11 @@
 -- A lone lookup whole: 5, 40, and then what the parts answer. `Done` says that an answer and the lent list are as the rules say. Assumes nothing.
 use Prim.Native.Nat.{ℕ, _<_, _≤_}
-use mathlib.Core.Path.{_≡_, refl, sym, _∙_, ap}
+use mathlib.Core.Path.{_≡_, refl, sym, _∙_}
 use mathlib.Core.Bool.{Bool, true, false, not, _&&_}
 use mathlib.Core.List.{List, []}
 use borrow.Author.Tests.{lt-ltb, le-ltb, not-true, not-false}
-use lib.Dec.{ltb}
 use lib.ListN.{length}
-use Rattle.laws.specs.Out.{given, refused, _>>_}
+use Rattle.laws.specs.Out.{_>>_}
 use Rattle.rules.specs.Refusal as why
 use Rattle.rules.specs.Refusal.{Placed, told, twinsAfter}
 use Rattle.rules.specs.Table.{kindsOf, rowsOf, isTable, areRows}

@@ -4,11 +4,10 @@ use mathlib.Core.Path.{_≡_, sym, _∙_}
 use mathlib.Core.Bool.{Bool, true, false}
 use mathlib.Core.Option.{Option, some, none}
 use borrow.Author.Tests.{eq-eqb, ne-eqb}
-use Rattle.dimension.specs.Dimension as D
 use Rattle.rules.specs.Kinds.{Kinds, point}
 use Rattle.rules.specs.Refusal.{told}
 use Rattle.rules.specs.Arithmetic as rule
-use Rattle.error.specs.Shown.{answer, linked}
+use Rattle.error.specs.Shown.{linked}
 use Rattle.error.specs.declared.answer.Answer.{Answer}
 use Rattle.error.specs.declared.answer.Link.{Link}
 use Rattle.error.specs.declared.answer.Link.the-variants.{To, Nowhere}

@@ -1,18 +1,16 @@
 -- A power's answer: one law a return. Assumes nothing.
 use Prim.Native.Nat.{ℕ}
-use mathlib.Core.Path.{_≡_, refl, sym, _∙_, ap}
+use mathlib.Core.Path.{_≡_, refl, _∙_, ap}
 use mathlib.Core.Bool.{Bool, true, false, not}
 use mathlib.Core.Option.{Option, some, none}
 use borrow.Author.Tests.{eq-eqb, ne-eqb, not-true, not-false}
-use lib.ListN.{length}
 use Rattle.laws.specs.Options.{found, isSome}
-use Rattle.laws.specs.Out.{given, refused}
 use Rattle.dimension.specs.Fraction as F
 use Rattle.dimension.specs.Dimension as D
 use Rattle.dimension.specs.declared.rational.Rational.{Rational}
 use Rattle.dimension.specs.declared.dimensions.Dimensions.{Dimensions}
 use Rattle.dimension.specs.declared.dimensions.Outcome.{Outcome}
-use Rattle.rules.specs.Kinds.{Kinds, point, candidates}
+use Rattle.rules.specs.Kinds.{Kinds, point}
 use Rattle.rules.specs.Refusal.{told}
 use Rattle.rules.specs.Arithmetic as rule
 use Rattle.error.specs.Shown.{answer, linked}

@@ -11,7 +11,6 @@ use Rattle.rules.specs.Arithmetic as arithmetic
 use Rattle.error.specs.Shown.{shown, answer}
 use Rattle.error.specs.declared.cause.Error.{Error}
 use Rattle.error.specs.declared.answer.Answer.{Answer}
-use Rattle.error.specs.declared.answer.Verdict.{Verdict}
 use Rattle.error.specs.declared.answer.Verdict.the-variants.{Kind, Refused}
 
 -- a lookup's answer, by itself: a refusal's place is 0

@@ -18,7 +18,7 @@ use Rattle.dimension.specs.declared.grade.ProductOp.{ProductOp}
 use Rattle.dimension.specs.declared.grade.ProductOp.the-variants.{Mul, Div}
 use Rattle.rules.specs.Kinds.{Kinds, Rows, Graded, sameOp, point, fits, carries}
 use Rattle.rules.specs.Refusal.{Answer, UnresolvedDimensions, UnresolvedTwin, NoProductKind, CommutativeQuotient, Unknown, UnsupportedOperation, absent}
-use Rattle.rules.specs.Arithmetic.{operand, graded, gradeBy, joined, derive, neutralBy, neutral, ratedBy, rated, fitting, orFitting, settle, resolve, product, raised, power, scaled}
+use Rattle.rules.specs.Arithmetic.{operand, graded, gradeBy, joined, derive, neutralBy, neutral, ratedBy, rated, orFitting, settle, resolve, product, raised, power, scaled}
 use Rattle.rules.specs.Catalog.{Catalog, noKind, find}
 use Rattle.rules.specs.Compile.{Checked, called, rowRule}
 use Rattle.teaching.specs.Listed.{unlisted, kindsBy, bases, listed, teaching, noRows}

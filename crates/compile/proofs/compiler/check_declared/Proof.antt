@@ -2,12 +2,9 @@
 -- Assumes nothing.
 use borrow.Author.Needs.{needs}
 use types.Run.{miss}
-use Rattle.rules.specs.Catalog.{catalogIn}
-use Rattle.rules.specs.Compile.{dimensionlessRule, timeRule}
-use Rattle.error.specs.Shown.{fine}
 use Rattle.compile.specs.declared.kinds.Rule.the-variants.{Id, Difference, Rate}
-use Rattle.compile.proofs.EachKind.{butRefused}
-use Rattle.compile.proofs.Stages.{NotRefused, kinds-told, rule-told, ids-refused, differences-refused, neutral-refused, instant-refused, rates-answer}
+use Rattle.compile.proofs.Told.{butRefused}
+use Rattle.compile.proofs.Stages.{kinds-told, rule-told, ids-refused, differences-refused, neutral-refused, instant-refused, rates-answer}
 use Rattle.compile.proofs.compiler.check_declared.Statement.{statement}
 use Rattle.compile.proofs.compiler.check_declared.Tie as tie
 

@@ -2,7 +2,7 @@
 -- Assumes nothing.
 use borrow.Author.Needs.{needs}
 use types.Run.{miss}
-use Rattle.compile.proofs.EachKind.{butRefused}
+use Rattle.compile.proofs.Told.{butRefused}
 use Rattle.compile.proofs.Stages.{kinds-stop, rows-answer}
 use Rattle.compile.proofs.compiler.check_rules.Statement.{statement}
 use Rattle.compile.proofs.compiler.check_rules.Tie as tie

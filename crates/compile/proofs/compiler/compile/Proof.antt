@@ -12,8 +12,8 @@ use Rattle.rules.specs.Catalog.{catalogIn}
 use Rattle.rules.specs.Image.{lentCheck}
 use Rattle.rules.specs.Table.{tableWords}
 use Rattle.guarantees.specs.Images.{Bytes}
-use Rattle.compile.proofs.EachKind.{butRefused}
-use Rattle.compile.proofs.Stages.{fine-given, lent-stops, rules-stop, all-compiled}
+use Rattle.compile.proofs.Told.{butRefused, fine-given}
+use Rattle.compile.proofs.Stages.{lent-stops, rules-stop, all-compiled}
 use Rattle.compile.proofs.Readied.{kinds-few, rows-few, room-enough, links-all, words-made, words-read, words-long}
 use Rattle.compile.proofs.compiler.compile.Statement.{statement}
 use Rattle.compile.proofs.compiler.compile.Tie as tie

@@ -9,7 +9,8 @@ use Rattle.rules.specs.Layout.{kindCount}
 use Rattle.rules.specs.Refusal.{at}
 use Rattle.rules.specs.Catalog.{catalogIn}
 use Rattle.compile.specs.Asked.{asked}
-use Rattle.compile.proofs.EachKind.{records, all-next, butRefused}
+use Rattle.compile.proofs.Told.{butRefused}
+use Rattle.compile.proofs.EachRecord.{records, all-next}
 use Rattle.compile.proofs.kinds.check_kinds.Statement.{statement}
 use Rattle.compile.proofs.kinds.check_kinds.Tie as tie
 

@@ -3,7 +3,6 @@
 use borrow.Author.Needs.{needs}
 use Prim.Native.Nat.{_+_, _-_, _≤_}
 use mathlib.Core.Path.{_≡_, refl}
-use mathlib.Core.List.{[], _∷_}
 use native.Mathlib.Omega.{arith}
 use types.Run.{miss}
 use lib.ListN.{length}
@@ -14,7 +13,8 @@ use Rattle.rules.specs.Catalog.{catalogIn}
 use Rattle.rules.specs.Compile.{rowRule, eachRecord}
 use Rattle.rules.specs.Table.{entriesIn}
 use Rattle.compile.proofs.Prefix.{few-words, used-in, few-entered}
-use Rattle.compile.proofs.EachRule.{ruled-end}
+use Rattle.compile.proofs.Told.{butRefused}
+use Rattle.compile.proofs.EachRecord.{all-end}
 use Rattle.compile.proofs.RowRule.{turn-stop, turn-next}
 use Rattle.compile.proofs.rows.check_rows.Statement.{statement}
 use Rattle.compile.proofs.rows.check_rows.Tie as tie
@@ -69,13 +69,13 @@ loop-again c =
     let r = a .before .before in
     let l = r .before .before in
     let s = l .before .before .before .before .before in
-    let t = turn-next (s .args .image .now) (s .pre .1 .1 .1 .0) (s .pre .1 .1 .1 .1) (l .loop .i) (omega arith) (s .pre .0) (s .pre .1 .0) (l .loop .inv .2) (l .loop .inv .3) (r .row-at .ensures) (a .check-row .ensures) (λ y p. miss (0 ∷ 1 ∷ 2 ∷ []) 3 (tt {0}) (rw p at (c .before .match .keys2))) (c .entered .ensures) in
+    let t = turn-next (s .args .image .now) (s .pre .1 .1 .1 .0) (s .pre .1 .1 .1 .1) (l .loop .i) (omega arith) (s .pre .0) (s .pre .1 .0) (l .loop .inv .2) (l .loop .inv .3) (r .row-at .ensures) (a .check-row .ensures) (λ y p. miss butRefused 3 (tt {0}) (rw p at (c .before .match .keys2))) (c .entered .ensures) in
     (omega arith, l .loop .inv .1, t .0, t .1)
 
 returns-2 : tie.Need-returns-2 Inv-loop μ-loop
 returns-2 c =
     let l = c .before .before in
-    ruled-end _ (l .loop .i) _ (l .loop .inv .3) (omega arith) (omega arith) (c .passed .ensures)
+    all-end _ (l .loop .i) _ refl (l .loop .inv .3) (omega arith) (omega arith) (c .passed .ensures)
 
 pub check-rows-spec : {M : Type 1} → statement M
 check-rows-spec = tie.close (tie.spec Inv-loop μ-loop (search needs) loop-holds row-at-requires sub-check-row part-check-row-start part-check-row-end (search needs) (search needs) returns (search needs) add-used (search needs) (search needs) loop-again (search needs) returns-2)
