@@ -14,3 +14,4 @@ pub mod Overlay
 pub mod Sum
 pub mod Below
 pub mod Checks
+pub mod Part

@@ -19,6 +19,7 @@ pub use kinds::rate_of;
 pub use kinds::same_exponents;
 pub use kinds::target_of;
 pub use kinds::time;
+pub use rows::own_rows;
 pub use rows::row_of;
 pub use words::Exponents;
 pub use words::word;

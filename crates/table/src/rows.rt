@@ -5,6 +5,7 @@ use dimension::ProductOp;
 use error::Link;
 ghost use mathlib.Core.Path.{_≡_};
 ghost use Prim.Native.Nat.{_<_};
+ghost use lib.ListN.{take, drop};
 ghost use Rattle.rules.specs.Kinds as K;
 ghost use Rattle.rules.specs.Table as T;
 ghost use Rattle.error.specs.Shown.{linked};
@@ -44,4 +45,25 @@ pub fn row_of(rows: &[u32], l: u16, op: ProductOp, r: u16) -> Link
         i += 1;
     }
     Link::Nowhere
+}
+
+// The words from `at` on, `len` of them or as many as there are.
+fn part(s: &[u32], at: usize, len: usize) -> &[u32]
+    ensures { λ v. ⌜ now v ≡ take len (drop at (now (s .entry))) ⌝ }
+{
+    let n = s.len();
+    if n <= at {
+        return &s[0..0];
+    }
+    if n - at <= len {
+        return &s[at..n];
+    }
+    &s[at..at + len]
+}
+
+// The rows that a table holds itself, behind its kinds: as many as its second word says.
+pub fn own_rows(table: &[u32]) -> &[u32]
+    ensures { λ v. ⌜ now v ≡ T.ownRows (now (table .entry)) ⌝ }
+{
+    part(table, 7696, 4 * word(table, 1) as usize)
 }
