@@ -1,4 +1,4 @@
-"""The stored answers as bytes: writing and reading crates/vectors/data/*.bin.
+"""The stored answers as bytes: writing and reading crates/*/data/*.bin.
 
 docs/VECTORS.md has the layout in words.
 """
@@ -7,7 +7,9 @@ import struct
 
 from oracle.ask import ROOT, Answer, CompiledKind, CompiledRow
 
-ANSWERS = os.path.join(ROOT, "crates", "vectors", "data")
+# The program that each file is the data of.
+PROGRAMS = {"exponents.bin": "vectors", "images.bin": "vectors", "compile.bin": "vectors",
+            "lookups.bin": "replay", "formulas.bin": "replay"}
 MAGIC = b"KCA1"
 EXPONENTS, COMPILE, LOOKUPS, FORMULAS, IMAGES = 1, 2, 3, 4, 5
 NUMBER, KIND, REFUSED, COMPILED = 0, 1, 2, 3
@@ -17,6 +19,10 @@ OPERATIONS = ("reduced", "sum", "difference", "product",
               "dimension product", "dimension quotient", "dimension power")
 SCALAR_OPERATIONS = OPERATIONS[:4]
 BASES = 12
+
+
+def path(name):
+    return os.path.join(ROOT, "crates", PROGRAMS[name], "data", name)
 
 
 # ---- Images: zeros are left out. Pairs of bytes (zeros, literals), each

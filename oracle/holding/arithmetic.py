@@ -1,5 +1,4 @@
 """Fractions, dimensions, grades; lookups over kinds and rows."""
-import os
 
 from oracle import stored
 from oracle.holding import expected, written
@@ -40,7 +39,7 @@ def dimensions_case(operation, left, right, result):
 
 
 def exponents(_, most):
-    with open(os.path.join(stored.ANSWERS, "exponents.bin"), "rb") as file:
+    with open(stored.path("exponents.bin"), "rb") as file:
         records = spread(stored.read_exponents(file.read()), most)
     scalar = [record for record in records if record[0] in stored.SCALAR_OPERATIONS]
     whole = [record for record in records if record[0] not in stored.SCALAR_OPERATIONS]

@@ -1,6 +1,5 @@
 """What every group of statements is made with: stored answers and fresh ones,
 cases put on sheets, and the kinds and rows of a catalog as definitions."""
-import os
 from random import Random
 
 from oracle import generate, stored
@@ -16,7 +15,7 @@ WHOLE_BLOCKS, PART_BLOCKS, SMALL_BLOCKS = 3, 5, 9
 
 
 def sections(name, group):
-    with open(os.path.join(stored.ANSWERS, name), "rb") as file:
+    with open(stored.path(name), "rb") as file:
         return stored.read_sections(group, file.read())
 
 

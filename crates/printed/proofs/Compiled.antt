@@ -43,7 +43,7 @@ module _ (s bytes : List ℕ) where
     where
       go : (m : Placed Compiled) → compileImage s tableSize ≡ m → a ≡ termed (checked s bytes)
       go (given c) q = let z : Fine ≡ Refused x = sym (ap (λ (b : Answer). b .verdict) (rw q at e)) ∙ p in let y : true ≡ false = cc in absurd (true≢false y)
-      go (refused f) q = let z : a ≡ compiled (refused f) = rw q at e in z ∙ ap termed (sym (checked-refused s bytes q))
+      go (refused f) q = let z : a ≡ compiled (refused f) = rw q at e in z ∙ ap termed (sym (checked-refused q))
 
   pub runs : (old : List ℕ) {a v : Answer} {t rows : List ℕ} → Bytes s → length old ≡ tableSize → a ≡ compiled (compileImage s tableSize) → NotRefused (a .verdict) → t ≡ tableAfter s old → rows ≡ ownRows t
       → v ≡ termed (formulaIn (kindsOf t) (rowsOf rows) bytes) → v ≡ termed (checked s bytes)
@@ -52,8 +52,9 @@ module _ (s bytes : List ℕ) where
     where
       go : (m : Placed Compiled) → compileImage s tableSize ≡ m → v ≡ termed (checked s bytes)
       go (refused f) z = absurd (n _ (ap (λ (x : Answer). x .verdict) (rw z at e)))
-      go (given c) z = r ∙ rw (q, h) (ap termed (sym (checked-given s bytes old c b l z)))
+      go (given c) z = r ∙ rw (q, h) (ap termed (sym (checked-given old c b l z)))
 
-pub prints : (input : List ℕ) {r : Line} {v : Answer} → v ≡ termed (checked (imagePart input) (formulaPart input)) → r ≡ written (lineOf (imagePart input) v) → r ≡ written (kindcheck input)
+pub prints : (input : List ℕ) {i f : List ℕ} {r : Line} {v : Answer} → i ≡ imagePart input → f ≡ formulaPart input → v ≡ termed (checked i f) → r ≡ written (lineOf i v) → r ≡ written (kindcheck input)
 unfolding kindcheck
-prints input e h = h ∙ ap (λ (a : Answer). written (lineOf (imagePart input) a)) e ∙ ap written (line-termed (imagePart input) _)
+prints input {i} {f} p q e h =
+    h ∙ ap (λ (a : Answer). written (lineOf i a)) e ∙ ap written (line-termed i (checked i f)) ∙ rw (p, q)

@@ -1,27 +1,18 @@
 -- What a record of exponents.bin holds (docs/VECTORS.md), and what the lower library's definitions say of it.
-use Prim.Native.Nat.{ℕ, _*_}
+use Prim.Native.Nat.{ℕ}
 use mathlib.Core.Bool.{cond}
 use mathlib.Core.List.{List}
 use lib.Dec.{ltb, eqb}
 use lib.ListN.{drop}
-use Rattle.laws.specs.Ranges.{tab}
 use Rattle.dimension.specs.Fraction as F
-use Rattle.dimension.specs.Integer as I
 use Rattle.dimension.specs.Dimension as D
 use Rattle.dimension.specs.declared.rational.Rational.{Rational}
 use Rattle.dimension.specs.declared.rational.Ratio.{Ratio}
 use Rattle.dimension.specs.declared.rational.Ratio.the-variants.{Is}
 use Rattle.dimension.specs.declared.dimensions.Dimensions.{Dimensions}
 use Rattle.dimension.specs.declared.dimensions.Outcome.{Outcome}
-use Rattle.vectors.specs.Little.{word32}
-
--- the exponent that bytes begin with: numerator, then denominator
-unfoldable pub exponent : List ℕ → Rational
-exponent s = F.ratio (I.twos 2147483648 (word32 s)) (word32 (drop 4 s))
-
--- the twelve exponents that bytes begin with
-unfoldable pub dimensions : List ℕ → Dimensions
-dimensions s = D.dimensions (tab (λ (k : ℕ). exponent (drop (8 * k) s)) 12)
+use Rattle.rules.specs.Bytes.{le4}
+use Rattle.stored.specs.Exponents.{exponent, dimensions}
 
 -- the operations 0 to 3, and 4 and 5
 unfoldable pub ofExponents : ℕ → Rational → Rational → Ratio
@@ -37,14 +28,14 @@ pub data Answer : Type 0 where
 
 -- an operation's answer by its number: of exponents, of dimensions, and of dimensions and an exponent
 unfoldable pub chosen : List ℕ → Answer → Answer → Answer → Answer
-chosen s a b c = cond (ltb (word32 s) 4) a (cond (ltb (word32 s) 6) b c)
+chosen s a b c = cond (ltb (le4 s 0) 4) a (cond (ltb (le4 s 0) 6) b c)
 
 -- what the definitions answer to the record that bytes begin with
 unfoldable pub answer : List ℕ → Answer
 answer s =
     chosen s
-    (one (ofExponents (word32 s) (exponent (drop 4 s)) (exponent (drop 12 s))))
-    (twelve (ofDimensions (word32 s) (dimensions (drop 4 s)) (dimensions (drop 100 s))))
+    (one (ofExponents (le4 s 0) (exponent (drop 4 s)) (exponent (drop 12 s))))
+    (twelve (ofDimensions (le4 s 0) (dimensions (drop 4 s)) (dimensions (drop 100 s))))
     (twelve (D.power (dimensions (drop 4 s)) (exponent (drop 100 s))))
 
 -- what the Rust answered

@@ -1,4 +1,3 @@
--- Numbers as the stored files hold them, and what their records say.
-pub mod Little
+-- What the records and requests of the stored files say.
 pub mod ExponentRecords
 pub mod ImageRequests

@@ -1,46 +1,24 @@
 // The group `exponents`: fractions reduced, added, subtracted and multiplied, and the products, quotients and powers of dimensions. A record is its
 // operation in four bytes, and then left, right and result: exponents of 8 bytes, dimensions of 96.
-use crate::input;
-use crate::input::ROOM;
-use crate::input::Tally;
-use crate::input::UNREADABLE;
+use bytes::u32_at;
 use dimension::Dimensions;
 use dimension::Outcome;
 use dimension::Ratio;
 use dimension::Rational;
+use stored::after;
+use stored::dimensions;
+use stored::exponent;
+use stored::ROOM;
+use stored::Tally;
+use stored::UNREADABLE;
 ghost use mathlib.Core.Bool.{true};
 ghost use mathlib.Core.Path.{_≡_};
 ghost use Prim.Native.Nat.{_≤_};
-ghost use lib.ListN.{length, drop};
+ghost use lib.ListN.{length};
 ghost use Rattle.dimension.specs.Dimension as D;
 ghost use Rattle.vectors.specs.ExponentRecords as R;
 
 const GROUP: u32 = 1;
-
-// The exponent at `at`.
-fn exponent(s: &[u8], at: usize) -> Rational
-    ensures { λ r. ⌜ r ≡ R.exponent (drop at (now (s .entry))) ⌝ }
-{
-    let e = input::after(s, at);
-    Rational {
-        num: dimension::signed32(input::word32(e, 0)),
-        den: input::word32(e, 4),
-    }
-}
-
-// The dimensions at `at`.
-fn dimensions(s: &[u8], at: usize) -> Dimensions
-    ensures { λ r. ⌜ r ≡ R.dimensions (drop at (now (s .entry))) ⌝ }
-{
-    let e = input::after(s, at);
-    let mut d = Dimensions::one();
-    let mut i: usize = 0;
-    while i < 12 {
-        d.powers[i] = exponent(e, 8 * i);
-        i += 1;
-    }
-    d
-}
 
 // Whether an answer is the stored one, numerator and denominator.
 fn is(found: Ratio, stored: Rational) -> bool
@@ -93,7 +71,7 @@ fn of_dimensions(operation: u32, left: Dimensions, right: Dimensions) -> Outcome
 fn agrees(s: &[u8]) -> bool
     ensures { λ r. ⌜ (r ≡ true → R.answer (now (s .entry)) ≡ R.stored (now (s .entry))) ⌝ }
 {
-    let operation = input::word32(s, 0);
+    let operation = u32_at(s, 0);
     if operation < 4 {
         return is(
             of_exponents(operation, exponent(s, 4), exponent(s, 12)),
@@ -124,7 +102,7 @@ fn past(s: &[u8], at: usize) -> usize
     requires { ⌜ at ≤ length (now s) ⌝ }
     ensures { λ r. ⌜ r ≤ length (now (s .entry)) ⌝ }
 {
-    let n = size(input::word32(s, at));
+    let n = size(u32_at(s, at));
     if n <= s.len() - at { at + n } else { at }
 }
 
@@ -140,7 +118,7 @@ fn agreed(s: &[u8], records: u32) -> u32
         if next == at {
             return 0;
         }
-        if agrees(input::after(s, at)) {
+        if agrees(after(s, at)) {
             count += 1;
         }
         at = next;
@@ -150,22 +128,22 @@ fn agreed(s: &[u8], records: u32) -> u32
 }
 
 // A record is a request, so the header's two counts are one number.
-fn tally(s: &[u8]) -> Tally {
-    if !input::is_group(s, GROUP) {
+fn counted(s: &[u8]) -> Tally {
+    if !stored::is_group(s, GROUP) {
         return UNREADABLE;
     }
-    let requests = input::word32(s, 12);
-    if input::word32(s, 8) != requests {
+    let requests = u32_at(s, 12);
+    if u32_at(s, 8) != requests {
         return UNREADABLE;
     }
     Tally {
-        agreed: agreed(input::after(s, 16), requests),
+        agreed: agreed(after(s, 16), requests),
         requests: requests,
     }
 }
 
 pub(crate) fn replayed() -> Tally {
     let mut buffer = [0u8; ROOM];
-    let n = input::read(b"exponents.bin", &mut buffer);
-    tally(&buffer[..n])
+    let n = crate::tally::read(b"exponents.bin", &mut buffer);
+    counted(&buffer[..n])
 }

@@ -1,13 +1,17 @@
 // The group `images`: an image with one byte changed, the sum of its block set right or not, cut to a length, and what it is refused for. A section
 // is an image and its requests; a request is 20 bytes: the length, the changed byte's place and value, whether the sum is set right, and then the
 // refusal's number (0 for none), place and value.
-use crate::input;
-use crate::input::ROOM;
-use crate::input::Tally;
-use crate::input::UNREADABLE;
+use bytes::byte_at;
+use bytes::u16_at;
+use bytes::u32_at;
 use error::Answer;
 use error::Error;
 use error::Verdict;
+use stored::after;
+use stored::front;
+use stored::ROOM;
+use stored::Tally;
+use stored::UNREADABLE;
 ghost use mathlib.Core.Path.{_≡_};
 ghost use Prim.Native.Nat.{_≤_, _<_};
 ghost use lib.ListN.{getD};
@@ -62,44 +66,6 @@ fn put(image: &mut [u8], i: usize, x: u8) {
     }
 }
 
-// n bytes of s from `from` on, put into the image from `at` on.
-fn copy(s: &[u8], from: usize, image: &mut [u8], at: usize, n: usize)
-    requires { ⌜ (from < 1000000) × (at < 1000000) × (n < 256) ⌝ }
-{
-    let mut i: usize = 0;
-    while i < n {
-        put(image, at + i, input::byte(s, from + i));
-        i += 1;
-    }
-}
-
-// A packed image, unpacked: pairs of bytes, how many zeros and how many bytes that follow the pair.
-fn unpack(s: &[u8], image: &mut [u8], size: usize)
-    requires { ⌜ size < 500000 ⌝ }
-{
-    let mut from: usize = 0;
-    let mut at: usize = 0;
-    while from < size {
-        let zeros = input::byte(s, from) as usize;
-        let n = input::byte(s, from + 1) as usize;
-        if 500000 < at {
-            return;
-        }
-        copy(s, from + 2, image, at + zeros, n);
-        from = from + 2 + n;
-        at = at + zeros + n;
-    }
-}
-
-fn clear(image: &mut [u8]) {
-    let n = image.len();
-    let mut i: usize = 0;
-    while i < n {
-        image[i] = 0;
-        i += 1;
-    }
-}
-
 // The sum of the block that begins at `start`. Taken from its last byte, so that byte i is added i + 1 times.
 fn sum(image: &[u8], start: usize) -> u32
     requires { ⌜ start < 4294967296 ⌝ }
@@ -108,7 +74,7 @@ fn sum(image: &[u8], start: usize) -> u32
     let mut total: u32 = 0;
     let mut i: usize = 0;
     while i < 508 {
-        last += input::byte(image, start + 507 - i) as u32;
+        last += byte_at(image, start + 507 - i) as u32;
         total += last;
         i += 1;
     }
@@ -133,16 +99,12 @@ fn reseal(image: &mut [u8], start: usize, asked: u8)
     }
 }
 
-fn part(image: &[u8], n: usize) -> &[u8] {
-    if n < image.len() { &image[0..n] } else { image }
-}
-
 // The image with the byte that a request changes.
 fn change(image: &mut [u8], request: &[u8], place: usize, start: usize)
     requires { ⌜ start < 4294967296 ⌝ }
 {
-    put(image, place, input::byte(request, 8));
-    reseal(image, start, input::byte(request, 9));
+    put(image, place, byte_at(request, 8));
+    reseal(image, start, byte_at(request, 9));
 }
 
 // The image as it was.
@@ -154,34 +116,34 @@ fn restore(image: &mut [u8], place: usize, old: u8, start: usize, sum: u32)
 }
 
 fn answered(image: &[u8], length: u32) -> Answer {
-    image::check_image(part(image, length as usize))
+    image::check_image(front(image, length as usize))
 }
 
 // Whether the library answers the first request as it is stored; the image is as it was afterwards.
 fn agrees(request: &[u8], image: &mut [u8]) -> bool {
-    let place = input::word32(request, 4) as usize;
+    let place = u32_at(request, 4) as usize;
     let start = place / 512 * 512;
-    let old = input::byte(image, place);
-    let sum = input::word32(image, start + 508);
+    let old = byte_at(image, place);
+    let sum = u32_at(image, start + 508);
     change(image, request, place, start);
-    let answer = answered(image, input::word32(request, 0));
+    let answer = answered(image, u32_at(request, 0));
     restore(image, place, old, start, sum);
     is(
         answer,
-        input::byte(request, 10) as u32,
-        input::word32(request, 12),
-        input::word32(request, 16),
+        byte_at(request, 10) as u32,
+        u32_at(request, 12),
+        u32_at(request, 16),
     )
 }
 
 // How many of n requests agree.
-fn agreed(requests: &[u8], n: u32, image: &mut [u8]) -> u32
+fn agreed(requests: &[u8], n: u16, image: &mut [u8]) -> u32
     ensures { λ r. ⌜ r ≤ n ⌝ }
 {
-    let mut i: u32 = 0;
+    let mut i: u16 = 0;
     let mut count: u32 = 0;
     while i < n {
-        if agrees(input::after(requests, REQUEST * i as usize), image) {
+        if agrees(after(requests, REQUEST * i as usize), image) {
             count += 1;
         }
         i += 1;
@@ -191,60 +153,52 @@ fn agreed(requests: &[u8], n: u32, image: &mut [u8]) -> u32
 
 // The bytes of the section that s begins with.
 fn section_size(s: &[u8]) -> usize
-    ensures { λ r. ⌜ r ≤ 90194313207 ⌝ }
+    ensures { λ r. ⌜ r ≤ 4296278007 ⌝ }
 {
-    12 + input::word32(s, 4) as usize + REQUEST * requests_of(s) as usize
+    12 + u32_at(s, 4) as usize + REQUEST * u16_at(s, 8) as usize
 }
 
-// Its requests: 16 bits and two zero bytes.
-fn requests_of(s: &[u8]) -> u32 {
-    input::word32(s, 8)
-}
-
-fn section(s: &[u8], image: &mut [u8]) -> u32 {
-    let size = input::word32(s, 4) as usize;
-    if 500000 <= size {
-        return 0;
-    }
-    clear(image);
-    unpack(input::after(s, 12), image, size);
-    agreed(input::after(s, 12 + size), requests_of(s), image)
+fn section(s: &[u8], image: &mut [u8]) -> u32
+    ensures { λ r. ⌜ r ≤ 65535 ⌝ }
+{
+    let size = u32_at(s, 4) as usize;
+    stored::unpack(front(after(s, 12), size), image);
+    agreed(after(s, 12 + size), u16_at(s, 8), image)
 }
 
 // How many requests of n sections agree; none if the sections don't end with the file.
 fn agreed_in(s: &[u8], n: u32, image: &mut [u8]) -> u32 {
     let mut at: usize = 0;
     let mut i: u32 = 0;
-    let mut count: u64 = 0;
+    let mut count: u32 = 0;
     while i < n {
-        if 1000000 < at {
+        if ROOM < at {
             return 0;
         }
-        let rest = input::after(s, at);
-        count += section(rest, image) as u64;
+        if 16777216 < count {
+            return 0;
+        }
+        let rest = after(s, at);
+        count += section(rest, image);
         at += section_size(rest);
         i += 1;
     }
-    if at == s.len() { narrowed(count) } else { 0 }
+    if at == s.len() { count } else { 0 }
 }
 
-fn narrowed(count: u64) -> u32 {
-    if count < 4294967296 { count as u32 } else { 0 }
-}
-
-fn tally(s: &[u8]) -> Tally {
-    if !input::is_group(s, GROUP) {
+fn counted(s: &[u8]) -> Tally {
+    if !stored::is_group(s, GROUP) {
         return UNREADABLE;
     }
     let mut image = [0u8; LONGEST];
     Tally {
-        agreed: agreed_in(input::after(s, 16), input::word32(s, 8), &mut image),
-        requests: input::word32(s, 12),
+        agreed: agreed_in(after(s, 16), u32_at(s, 8), &mut image),
+        requests: u32_at(s, 12),
     }
 }
 
 pub(crate) fn replayed() -> Tally {
     let mut buffer = [0u8; ROOM];
-    let n = input::read(b"images.bin", &mut buffer);
-    tally(&buffer[..n])
+    let n = crate::tally::read(b"images.bin", &mut buffer);
+    counted(&buffer[..n])
 }

@@ -1,0 +1,2 @@
+-- What the rules answer to a stored request.
+pub mod Requests

@@ -1,0 +1,5 @@
+-- What the stored files hold.
+pub mod Files
+pub mod Exponents
+pub mod Packed
+pub mod Answers

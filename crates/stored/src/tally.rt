@@ -1,0 +1,16 @@
+// How many requests of a stored file were answered as stored.
+
+// Requests of a file, and how many of them agree.
+pub struct Tally {
+    pub agreed: u32,
+    pub requests: u32,
+}
+
+// What is told of a file that isn't there or isn't of its group: no stored file has no requests, so this is never what is expected.
+pub const UNREADABLE: Tally = Tally {
+    agreed: 0,
+    requests: 0,
+};
+
+// Room for the largest file and a byte more, on the stack.
+pub const ROOM: usize = 917504;
