@@ -2,11 +2,11 @@
 use crate::requests;
 use bytes::u16_at;
 use bytes::u32_at;
-use stored::after;
-use stored::front;
 use stored::ROOM;
 use stored::Tally;
 use stored::UNREADABLE;
+use stored::after;
+use stored::front;
 ghost use mathlib.Core.Path.{_≡_};
 ghost use Prim.Native.Nat.{_≤_, _*_};
 ghost use Rattle.replay.specs.Requests as R;
