@@ -7,5 +7,6 @@ mod rows;
 mod table;
 mod words;
 
+pub use marks::exponent_words;
 pub use table::Written;
 pub use table::table_words;

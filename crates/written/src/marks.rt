@@ -23,8 +23,10 @@ fn exponent_word(x: Rational, i: usize) -> u32
     x.den
 }
 
+pub type Exponents = [u32; 24];
+
 // The words of d, two for each exponent.
-fn exponent_words(d: Dimensions) -> [u32; 24]
+pub fn exponent_words(d: Dimensions) -> Exponents
     ensures { λ r. ⌜ r ≡ exponentsOf d ⌝ }
 {
     let mut w = [0u32; 24];

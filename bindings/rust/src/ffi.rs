@@ -1,0 +1,106 @@
+//! The library's functions as they are, and a safe call of each: a slice is lent as its pointer and its length.
+
+use crate::{Out, OUT_WORDS};
+
+#[rustfmt::skip]
+extern "C" {
+    fn kind_compile(
+        image: *const u8, image_len: usize,
+        table: *mut u32, table_len: usize,
+        out: *mut u32, out_len: usize,
+    ) -> bool;
+
+    fn kind_combine(
+        table: *const u32, table_len: usize,
+        rows: *const u32, rows_len: usize,
+        twins: *mut u16, twins_len: usize,
+        code: u8, left: u16, right: u16,
+        out: *mut u32, out_len: usize,
+    ) -> bool;
+
+    fn kind_power(
+        table: *const u32, table_len: usize,
+        twins: *mut u16, twins_len: usize,
+        base: u16, num: i32, den: u32,
+        out: *mut u32, out_len: usize,
+    ) -> bool;
+
+    fn kind_power_inexact(
+        table: *const u32, table_len: usize,
+        twins: *mut u16, twins_len: usize,
+        base: u16,
+        out: *mut u32, out_len: usize,
+    ) -> bool;
+
+    fn kind_formula(
+        table: *const u32, table_len: usize,
+        rows: *const u32, rows_len: usize,
+        twins: *mut u16, twins_len: usize,
+        tokens: *const u8, tokens_len: usize,
+        out: *mut u32, out_len: usize,
+    ) -> bool;
+}
+
+// Why each `unsafe` block is sound: the functions are proved to end and to read and write nothing but the slices that are lent, within their
+// lengths, for every content; Rust's borrows keep the slices alive and apart for the call. An `Out` has room, so the result is always true.
+
+pub fn compile(image: &[u8], table: &mut [u32]) -> Out {
+    let mut out = [0; OUT_WORDS];
+    unsafe { kind_compile(image.as_ptr(), image.len(), table.as_mut_ptr(), table.len(), out.as_mut_ptr(), out.len()) };
+    out
+}
+
+pub fn combine(table: &[u32], rows: &[u32], twins: &mut [u16], code: u8, left: u16, right: u16) -> Out {
+    let mut out = [0; OUT_WORDS];
+    unsafe {
+        kind_combine(
+            table.as_ptr(),
+            table.len(),
+            rows.as_ptr(),
+            rows.len(),
+            twins.as_mut_ptr(),
+            twins.len(),
+            code,
+            left,
+            right,
+            out.as_mut_ptr(),
+            out.len(),
+        )
+    };
+    out
+}
+
+pub fn power(table: &[u32], twins: &mut [u16], base: u16, num: i32, den: u32) -> Out {
+    let mut out = [0; OUT_WORDS];
+    unsafe {
+        kind_power(table.as_ptr(), table.len(), twins.as_mut_ptr(), twins.len(), base, num, den, out.as_mut_ptr(), out.len())
+    };
+    out
+}
+
+pub fn power_inexact(table: &[u32], twins: &mut [u16], base: u16) -> Out {
+    let mut out = [0; OUT_WORDS];
+    unsafe {
+        kind_power_inexact(table.as_ptr(), table.len(), twins.as_mut_ptr(), twins.len(), base, out.as_mut_ptr(), out.len())
+    };
+    out
+}
+
+pub fn formula(table: &[u32], rows: &[u32], twins: &mut [u16], tokens: &[u8]) -> Out {
+    let mut out = [0; OUT_WORDS];
+    unsafe {
+        kind_formula(
+            table.as_ptr(),
+            table.len(),
+            rows.as_ptr(),
+            rows.len(),
+            twins.as_mut_ptr(),
+            twins.len(),
+            tokens.as_ptr(),
+            tokens.len(),
+            out.as_mut_ptr(),
+            out.len(),
+        )
+    };
+    out
+}

@@ -1,0 +1,4 @@
+-- Sheets: the words of the code's answers are those of the rules' answers, and they are 32 (`compiled-long`, `kind-long`, `term-long`).
+pub mod Sheets
+-- the words that the code makes of its answers
+mod Made
