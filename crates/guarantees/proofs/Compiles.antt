@@ -70,7 +70,7 @@ module _ (C : Catalog) (i : ℕ) (a : Accepted C i) (l : ℕ) (op : ProductOp) (
       let y = agreed-some (a .finds-right) q in
       rw (z, y, o) at (row-turned (kindsOf C) (a .left) (C .row i .op) (a .right) (a .no-quotient c) sound (a .row))
 
-  covered-only : Covered C l op r (C .row i) → rowAmong C i l op r ≡ none
+  pub covered-only : Covered C l op r (C .row i) → rowAmong C i l op r ≡ none
   covered-only (direct o p q) =
       let z = agreed-some (a .finds-left) p in
       let y = agreed-some (a .finds-right) q in
@@ -114,9 +114,9 @@ module _ (C : Catalog) (passed : Passed C) where
     guaranteed = record {
       grade = grade;
       declared = declared;
-      difference = λ k d e. difference-tells C k d (passed .differences k (difference-in C quiet k e)) e;
-      dimensionless = λ o e. dimensionless-tells C o (passed .dimensionless) e;
-      rateOf = λ k t e. let h = target-in C quiet k e in rate-tells C k t h (passed .rates k h) e;
+      difference = λ k d e. difference-tells C k d (passed .differences k (difference-in C quiet k e)) e .0;
+      dimensionless = λ o e. dimensionless-tells C o (passed .dimensionless) e .0;
+      rateOf = λ k t e. let h = target-in C quiet k e in rate-tells C k t h (passed .rates k h) e .0;
       rate = rate-names C;
       row = row-is;
     }
@@ -128,7 +128,7 @@ duration-follows C passed points d e = go (kindsOf C .time) refl
   where
     go : (o : Option ℕ) → kindsOf C .time ≡ o → kindsOf C .grade d ≡ 0
     go none p = let h : none ≡ some d = rw p at e in let z : true ≡ false = cc in absurd (true≢false z)
-    go (some t) p = points t d (rw p at e) ∙ time-tells C t (passed .time) p
+    go (some t) p = points t d (rw p at e) ∙ time-tells C t (passed .time) p .1
 
 pub extends : (S L : Catalog) → Passed S → Passed L → MoreRows S L → Extends (rowsOf S) (rowsOf L)
 extends S L p q f l op r k e =

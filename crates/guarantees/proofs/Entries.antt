@@ -33,7 +33,7 @@ pub zero-more : (i : ℕ) → 4 * i + 0 ≡ 4 * i
 zero-more i = omega arith
 
 module _ (l : ℕ) (op : ProductOp) (r : ℕ) (s e : List ℕ) (m : ℕ) (four : length s ≡ 4 * m) where
-  front-row : (i : ℕ) → i < m → isRow (s ++ e) l op r i ≡ isRow s l op r i
+  pub front-row : (i : ℕ) → i < m → isRow (s ++ e) l op r i ≡ isRow s l op r i
   unfolding isRow
   front-row i h = rw (rw (zero-more i) at (front-word s e m four i 0 h (omega arith)), front-word s e m four i 1 h (omega arith), front-word s e m four i 2 h (omega arith))
 

@@ -108,7 +108,7 @@ module _ (C : Catalog) (l : ℕ) (op : ProductOp) (r : ℕ) where
             (2, rw z refl, rw z (on (here C l op r n a s m four || there C l op r n a s m four) 2 (double C n a) c (λ y. by-two y (here C l op r n a s m four) refl (there C l op r n a s m four) refl) o p h))
 
   -- ---- n rows, each accepted
-  agree : (n : ℕ) → ((i : ℕ) → i < n → Accepted C i) → (m : ℕ) × (length (entriesIn C n) ≡ 4 * m) × Agrees C l op r (rowAmong C n l op r) (entriesIn C n) m
+  pub agree : (n : ℕ) → ((i : ℕ) → i < n → Accepted C i) → (m : ℕ) × (length (entriesIn C n) ≡ 4 * m) × Agrees C l op r (rowAmong C n l op r) (entriesIn C n) m
   unfolding entriesIn rowAmong first
   agree zero rows = (0, refl, refl)
   agree (suc n) rows =

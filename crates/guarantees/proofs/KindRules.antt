@@ -4,19 +4,19 @@ use mathlib.Core.Path.{_≡_, refl, sym, _∙_}
 use mathlib.Core.Bool.{Bool, true, false, not, _&&_, true≢false}
 use mathlib.Core.Option.{Option, some, none}
 use lib.Dec.{eqb, ltb}
-use borrow.Author.Tests.{ltb-true, ltb-false, eqb-true}
+use borrow.Author.Tests.{ltb-true, ltb-false, eqb-true, eq-eqb}
 use Rattle.laws.specs.Out.{given, needed}
 use Rattle.laws.specs.Ranges.{first, below}
 use Rattle.laws.proofs.Cases.{and-left, and-right}
-use Rattle.laws.proofs.Checks.{bind-given, then-given, refuse-given, needed-given}
-use Rattle.laws.proofs.First.{first-below, first-passes}
+use Rattle.laws.proofs.Checks.{bind-given, then-given, refuse-given, found-given, needed-given}
+use Rattle.laws.proofs.First.{first-below, first-passes, first-misses}
 use Rattle.laws.proofs.Below.{below-in, below-past}
 use Rattle.dimension.specs.Dimension as D
 use Rattle.dimension.specs.declared.dimensions.Dimensions.{Dimensions}
 use Rattle.rules.specs.Kinds.{Kinds, point, duration, carries}
 use Rattle.rules.specs.Refusal.{Unknown, NoTimeKind, UnresolvedDimensions}
 use Rattle.rules.specs.Arithmetic.{operand}
-use Rattle.rules.specs.Catalog.{Id, blank, Catalog, noKind, meant, find, link, differenceOf, targetOf, rateAmong, role, kindsOf}
+use Rattle.rules.specs.Catalog.{Id, blank, Catalog, noKind, meant, find, link, differenceOf, targetOf, rateAmong, isDifference, role, kindsOf}
 use Rattle.rules.specs.Compile.{sameDims, called, differenceRule, dimensionlessRule, timeRule, rateRule}
 use Rattle.guarantees.specs.Premises.{IsDifference, IsDimensionless, IsRate}
 use Rattle.guarantees.proofs.Given.{test-given, declared-given, not-true, some-false, same-dims, meant-is}
@@ -49,6 +49,10 @@ module _ (C : Catalog) where
       go : (t : Bool) → blank id ≡ t → (blank id ≡ false) × (find C id ≡ some k)
       go true p = let h : none ≡ some k = rw p at e in let z : true ≡ false = cc in absurd (true≢false z)
       go false p = (p, rw p at e)
+
+  blank-link : (id : Id) → blank id ≡ true → link C id ≡ none
+  unfolding link
+  blank-link id e = rw e
 
   pub in-count : {k : ℕ} → k < C .kindCount → k < K .count
   unfolding kindsOf
@@ -91,26 +95,37 @@ module _ (C : Catalog) where
           let z : true ≡ false = cc in
           absurd (true≢false z)
 
-  -- ---- 13
-  pub difference-tells : (k d : ℕ) → differenceRule C k ≡ given tt → K .difference k ≡ some d → IsDifference K k d
+  -- ---- 13, 14
+  pub difference-tells : (k d : ℕ) → differenceRule C k ≡ given tt → K .difference k ≡ some d → IsDifference K k d × (K .difference d ≡ none)
   unfolding differenceRule kindsOf
   difference-tells k d e p =
       let l = link-some (C .kind k .difference) p in
       let s = bind-given (called C k (C .kind k .difference)) _ (declared-given (C .kind k .difference) _ (l .0) e) in
       let z : d ≡ s .0 = cc (l .1, called-given k _ (s .1)) in
       let t = test-given _ _ _ (s .2) in
-      record { below = find-below _ (l .1); dims = rw z (sym (same-dims _ _ (not-true _ (t .0)))) }
+      let n : link C (C .kind (s .0) .difference) ≡ none = blank-link _ (not-true _ (refuse-given _ _ (t .1))) in
+      (record { below = find-below _ (l .1); dims = rw z (sym (same-dims _ _ (not-true _ (t .0)))) }, rw z n)
 
   -- ---- 15
-  linear-tells : (k : ℕ) → eqb (role C k) 0 ≡ true → K .difference k ≡ none
+  linear-tells : (k : ℕ) → eqb (role C k) 0 ≡ true → (K .difference k ≡ none) × (isDifference C k ≡ false)
   unfolding role kindsOf
-  linear-tells k e = go (differenceOf C k) refl
+  linear-tells k e = go (differenceOf C k) refl (isDifference C k) refl
     where
-      go : (o : Option ℕ) → differenceOf C k ≡ o → differenceOf C k ≡ none
-      go none p = p
-      go (some d) p = let z : false ≡ true = rw p at e in absurd (true≢false (sym z))
+      go : (o : Option ℕ) → differenceOf C k ≡ o → (t : Bool) → isDifference C k ≡ t → (differenceOf C k ≡ none) × (isDifference C k ≡ false)
+      go none p false q = (p, q)
+      go none p true q = let z : false ≡ true = rw (p, q) at e in absurd (true≢false (sym z))
+      go (some d) p t q = let z : false ≡ true = rw p at e in absurd (true≢false (sym z))
 
-  pub dimensionless-tells : (o : ℕ) → dimensionlessRule C ≡ given tt → K .dimensionless ≡ some o → IsDimensionless K o
+  meant-self : (k : ℕ) {o : Option ℕ} → o ≡ some k → meant k o ≡ true
+  meant-self k e = rw e (eq-eqb k k refl)
+
+  -- no kind of the catalog has it as its difference
+  pub no-difference : Quiet C → (k : ℕ) → isDifference C k ≡ false → (j : ℕ) → K .difference j ≡ some k → ⊥
+  unfolding isDifference kindsOf link blank
+  no-difference quiet k e j p =
+      true≢false (sym (meant-self k p) ∙ first-misses (λ i. meant k (differenceOf C i)) (C .kindCount) j (some-false _ e) (within quiet (differenceOf C) (λ i z. rw z) j p))
+
+  pub dimensionless-tells : (o : ℕ) → dimensionlessRule C ≡ given tt → K .dimensionless ≡ some o → IsDimensionless K o × (isDifference C o ≡ false)
   unfolding dimensionlessRule kindsOf
   dimensionless-tells o e p =
       let l = link-some (C .dimensionless) p in
@@ -118,14 +133,17 @@ module _ (C : Catalog) where
       let z : s .0 ≡ o = cc (l .1, called-given 0 (C .dimensionless) (s .1)) in
       let t : (eqb (role C (s .0)) 0 && sameDims (C .kind (s .0) .dims) (some D.one)) ≡ true = not-true _ (refuse-given _ _ (s .2)) in
       let u : (eqb (role C o) 0 && sameDims (C .kind o .dims) (some D.one)) ≡ true = rw z at t in
-      record {
-        below = find-below (C .dimensionless) (l .1);
-        linear = linear-tells o (and-left (eqb (role C o) 0) _ u);
-        dims = same-dims (C .kind o .dims) (some D.one) (and-right (eqb (role C o) 0) _ u);
-      }
+      let n = linear-tells o (and-left (eqb (role C o) 0) _ u) in (
+        record {
+          below = find-below (C .dimensionless) (l .1);
+          linear = n .0;
+          dims = same-dims (C .kind o .dims) (some D.one) (and-right (eqb (role C o) 0) _ u);
+        },
+        n .1,
+      )
 
   -- ---- 16
-  pub time-tells : (t : ℕ) → timeRule C ≡ given tt → K .time ≡ some t → K .grade t ≡ 0
+  pub time-tells : (t : ℕ) → timeRule C ≡ given tt → K .time ≡ some t → (point K t ≡ true) × (K .grade t ≡ 0)
   unfolding timeRule kindsOf
   time-tells t e p =
       let l = link-some (C .time) p in
@@ -133,14 +151,18 @@ module _ (C : Catalog) where
       let z : s .0 ≡ t = cc (l .1, called-given 0 (C .time) (s .1)) in
       let u : (point K (s .0) && eqb (C .kind (s .0) .grade) 0) ≡ true = not-true _ (refuse-given _ _ (s .2)) in
       let v : (point K t && eqb (C .kind t .grade) 0) ≡ true = rw z at u in
-      eqb-true (C .kind t .grade) 0 (and-right (point K t) _ v)
+      (and-left (point K t) _ v, eqb-true (C .kind t .grade) 0 (and-right (point K t) _ v))
 
-  -- ---- 17 to 20
+  -- ---- 17 to 21
   aimed : (k s t d : ℕ) (a c : Dimensions) → s ≡ t → duration K ≡ some d → K .dims d ≡ some c → carries K (record { dims = D.product a c .value; grade = K .grade k }) s ≡ true
       → (e : ℕ) (b : Dimensions) → duration K ≡ some e → K .dims e ≡ some b → carries K (record { dims = D.product a b .value; grade = K .grade k }) t ≡ true
   aimed k s t d a c z p q h e b u v = let y : d ≡ e = cc in let x : c ≡ b = cc in rw (z, x) at h
 
-  pub rate-tells : (k t : ℕ) → k < C .kindCount → rateRule C k ≡ given tt → K .rateOf k ≡ some t → IsRate K k t
+  -- the duration is there and resolved
+  abbrev pub Timed : Type 0
+  Timed = (d : ℕ) × (b : Dimensions) × (duration K ≡ some d) × (K .dims d ≡ some b)
+
+  pub rate-tells : (k t : ℕ) → k < C .kindCount → rateRule C k ≡ given tt → K .rateOf k ≡ some t → IsRate K k t × Timed × (rateAmong C k t ≡ none)
   unfolding rateRule
   rate-tells k t b e p =
       let l = link-some (C .kind k .rateOf) (target-links k p) in
@@ -155,10 +177,19 @@ module _ (C : Catalog) where
       let c = bind-given (operand K (d .0)) _ (g .2) in
       let m = test-given (not (carries K (record { dims = D.product (a .0) (c .0) .value; grade = K .grade k }) (s .0))) _ _ (c .2) in
       let n : K .difference (s .0) ≡ none = some-false _ (pt .0) in
-      record {
-        below = (in-count b, in-count (find-below (C .kind k .rateOf) (l .1)));
-        no-points = (some-false _ (pk .0), rw z at n);
-        dims = a .0;
-        resolved = operand-given K k (a .1);
-        fits = aimed k (s .0) t (d .0) (a .0) (c .0) z du (operand-given K (d .0) (c .1)) (not-true _ (m .0));
-      }
+      let f : rateAmong C k (s .0) ≡ none = found-given (rateAmong C k (s .0)) _ (m .1) in (
+        record {
+          below = (in-count b, in-count (find-below (C .kind k .rateOf) (l .1)));
+          no-points = (some-false _ (pk .0), rw z at n);
+          dims = a .0;
+          resolved = operand-given K k (a .1);
+          fits = aimed k (s .0) t (d .0) (a .0) (c .0) z du (operand-given K (d .0) (c .1)) (not-true _ (m .0));
+        },
+        (d .0, c .0, du, operand-given K (d .0) (c .1)),
+        rw z at f,
+      )
+
+  -- 21: a target has one rate
+  pub one-earlier : (j k t : ℕ) → rateAmong C k t ≡ none → j < k → K .rateOf j ≡ some t → ⊥
+  unfolding rateAmong kindsOf
+  one-earlier j k t e h p = true≢false (sym (meant-self t p) ∙ first-misses (λ i. meant t (targetOf C i)) k j e h)

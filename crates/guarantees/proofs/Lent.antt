@@ -58,18 +58,18 @@ module _ (s old : List ℕ) (bytes : Bytes s) (c : Compiled) (e : compileImage s
   long : 9296 ≤ length t
   long = rw (after, overlay-length (tableWords (catalogIn s)) old (rw words-long room)) room
 
-  holds : Holds t (catalogIn s)
-  holds = subst (λ (w : List ℕ). Holds w (catalogIn s)) (sym after) (written-holds (catalogIn s) old)
+  pub table-holds : Holds t (catalogIn s)
+  table-holds = subst (λ (w : List ℕ). Holds w (catalogIn s)) (sym after) (written-holds (catalogIn s) old)
 
   fits : Fits (catalogIn s)
   fits = image-fits s bytes (image-tells s (length old) c e .0)
 
   -- the words are a table that is read as what was compiled
   pub table-kinds : table.kindsOf t ≡ c .kinds
-  table-kinds = kinds-back t (catalogIn s) holds fits ∙ ap (λ (x : Compiled). x .kinds) (image-compiled s bytes (length old) c e)
+  table-kinds = kinds-back t (catalogIn s) table-holds fits ∙ ap (λ (x : Compiled). x .kinds) (image-compiled s bytes (length old) c e)
 
   pub table-rows : table.rowsOf (ownRows t) ≡ c .rows
-  table-rows = rows-back t (catalogIn s) holds fits long (image-passes s bytes (length old) c e) ∙ ap (λ (x : Compiled). x .rows) (image-compiled s bytes (length old) c e)
+  table-rows = rows-back t (catalogIn s) table-holds fits long (image-passes s bytes (length old) c e) ∙ ap (λ (x : Compiled). x .rows) (image-compiled s bytes (length old) c e)
 
   -- neither 5 nor 40 is said
   roomy-fine : (twins : List ℕ) → 240 ≤ length twins → roomy t twins ≡ given tt
@@ -78,7 +78,7 @@ module _ (s old : List ℕ) (bytes : Bytes s) (c : Compiled) (e : compileImage s
 
   pub tabled-fine : tabled t (ownRows t) ≡ given tt
   unfolding tabled
-  tabled-fine = rw (is-table t (catalogIn s) holds fits long, are-rows t (catalogIn s) holds fits long)
+  tabled-fine = rw (is-table t (catalogIn s) table-holds fits long, are-rows t (catalogIn s) table-holds fits long)
 
   module _ (twins : List ℕ) (enough : 240 ≤ length twins) where
     pub call-is : (tokens : List ℕ) → callOver s old twins tokens ≡ formulaIn (c .kinds) (c .rows) tokens

@@ -1,7 +1,7 @@
 -- What `picked` lists: the numbers below n that pass the test, ascending, and none only where none passes. Assumes nothing.
 use Prim.Native.Nat.{ℕ, zero, suc, _+_, _<_, _≤_}
-use mathlib.Core.Path.{_≡_, refl, sym}
-use mathlib.Core.Bool.{Bool, true, false}
+use mathlib.Core.Path.{_≡_, refl, sym, _∙_, ap}
+use mathlib.Core.Bool.{Bool, true, false, true≢false}
 use mathlib.Core.List.{List, [], _∷_, _++_}
 use mathlib.Core.Logic.{⊎-elim}
 use native.Mathlib.Nat.{le-of-suc-le-suc, not-suc-le-zero, eq-or-lt-of-le}
@@ -73,6 +73,25 @@ module _ (test : ℕ → Bool) where
           rw (picked, p, z, last-is n, before n i y) (member-passes n i y .1))
           (λ b. let y : i < length (picked test n) = omega arith in rw (picked, p, before n i y, before n j b) (ih i j l b))
           (eq-or-lt-of-le (shorter j (length (picked test n)) m))
+
+  -- and whatever passes below n is listed
+  pub picked-has : (n k : ℕ) → k < n → test k ≡ true → (i : ℕ) × (i < length (picked test n)) × (getD (picked test n) i 0 ≡ k)
+  unfolding picked
+  picked-has zero k h t = absurd (not-suc-le-zero h)
+  picked-has (suc n) k h t = go (λ l. picked-has n k l t) (test n) refl
+    where
+      go : (k < n → (i : ℕ) × (i < length (picked test n)) × (getD (picked test n) i 0 ≡ k))
+          → (b : Bool) → test n ≡ b → (i : ℕ) × (i < length (picked test (suc n))) × (getD (picked test (suc n)) i 0 ≡ k)
+      go ih false p =
+          ⊎-elim
+          (λ (q : k ≡ n). let z : true ≡ false = sym t ∙ ap test q ∙ p in absurd (true≢false z))
+          (λ l. let m = ih l in (m .0, rw (picked, p) (m .1), rw (picked, p) (m .2)))
+          (eq-or-lt-of-le (le-of-suc-le-suc h))
+      go ih true p =
+          ⊎-elim
+          (λ (q : k ≡ n). (length (picked test n), rw (picked, p, longer n) (omega arith), rw (picked, p) (last-is n ∙ sym q)))
+          (λ l. let m = ih l in (m .0, rw (picked, p, longer n) (omega (arith, m .1)), rw (picked, p) (before n (m .0) (m .1) ∙ m .2)))
+          (eq-or-lt-of-le (le-of-suc-le-suc h))
 
   -- ---- the first of them, and none
   -- the first passes

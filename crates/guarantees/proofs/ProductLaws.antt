@@ -104,7 +104,7 @@ module _ (K : Kinds) (rows : Rows) (w : Within K rows) (l r k : ℕ) (hl : l < K
 
 -- ---- the twins are the kinds that fit, two at least
 module _ (K : Kinds) (l : ℕ) (op : ProductOp) (r : ℕ) where
-  resolve-twins : (x : Graded) (ks : List ℕ) → resolve K l op r x ≡ twins ks → (ks ≡ candidates K x) × (2 ≤ length ks)
+  pub resolve-twins : (x : Graded) (ks : List ℕ) → resolve K l op r x ≡ twins ks → (ks ≡ candidates K x) × (2 ≤ length ks)
   unfolding resolve
   resolve-twins x ks e = go (neutral K l op r) refl (rated K l op r) refl (candidates K x) refl
     where

@@ -100,7 +100,7 @@ twins-said : formulaIn teaching noRows areaByBore ≡ refused (fault 2 (Unresolv
 unfolding formulaIn formula goodLength tokensIn tokenAt tokenBy unusedZero token.exponentAt le2 le4 malformedAt walk shape terms kindTerm indexed binaryTerm twoKinds combine product derive operand graded gradeBy joined neutral neutralBy rated ratedBy resolve fits carries picked teaching listed tab D.product D.outcome D.equal G.product F.sum F.answer F.limited F.within F.lowest F.equal gcd euclid zipWith
 twins-said = refl
 
-row-there : larger .rows 6 Mul 7 ≡ some 1
+pub row-there : larger .rows 6 Mul 7 ≡ some 1
 unfolding rowsOf rowAmong covers names find same catalogIn below kindFrom rowFrom opOf idAt tab first le2 largerImage
 row-there = refl
 

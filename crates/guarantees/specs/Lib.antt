@@ -8,5 +8,10 @@ pub mod Premises
 pub mod Demand3
 pub mod Images
 pub mod Calls
+-- what a compilation guarantees of kinds, rows and words
+pub mod WellCompiled
+-- what a refusal's number tells, and the exponents of products and powers
+pub mod Causes
+pub mod SiRule
 -- the teaching catalog's image with a row, on which it is shown
 pub mod LargerImage
