@@ -18,20 +18,6 @@ use Rattle.error.specs.declared.answer.Answer.{Answer}
 use Rattle.stored.specs.Answers.{sizeOf, storedAs}
 use Rattle.replay.specs.Requests.{exponentIn, lookupOf, formulaOf, answerOf, twinsOf, requestSize, kept, unwritten, confirmed, agreed, wholeSize, placeOf, agreedAt}
 
--- ---- a table's own rows: none, a part of what follows the kinds, or all of it
-module _ (t : List ℕ) where
-  pub no-rows : length t ≤ 7696 → [] ≡ ownRows t
-  unfolding ownRows
-  no-rows h = rw (drop-of-length-le t h, take-nil)
-
-  pub some-rows : (n : ℕ) → n ≡ 4 * word t 1 → take n (drop 7696 t) ≡ ownRows t
-  unfolding ownRows
-  some-rows n e = rw e
-
-  pub all-rows : (n : ℕ) → n ≡ 4 * word t 1 → length t - 7696 ≤ n → drop 7696 t ≡ ownRows t
-  unfolding ownRows
-  all-rows n e h = rw (← e) (sym (take-all n (drop 7696 t) (rw length-drop h)))
-
 -- ---- the exponent of a power
 module _ (s : List ℕ) {code : ℕ} (c : code ≡ byte s 0) where
   pub is-inexact : code ≡ 9 → lone.inexact ≡ exponentIn s

@@ -8,12 +8,11 @@ use error::Answer;
 use lookup::Exponent;
 use stored::after;
 use stored::front;
-use table::word;
+use table::own_rows;
 ghost use mathlib.Core.Path.{_≡_};
 ghost use Prim.Native.Nat.{_<_, _≤_};
 ghost use lib.ListN.{length};
 ghost use Rattle.rules.specs.Refusal.{twinsAfter};
-ghost use Rattle.rules.specs.Table.{ownRows};
 ghost use Rattle.lookup.specs.Shown.{placed, exponentOf};
 ghost use Rattle.formula.specs.Shown.{termed};
 ghost use Rattle.replay.specs.Requests as R;
@@ -24,21 +23,6 @@ pub(crate) const FORMULAS: u32 = 4;
 
 // What the twin list holds before each request: the index of no kind.
 const UNWRITTEN: u16 = 54321;
-
-// The rows in force, which the table has behind its kinds.
-fn own_rows(table: &[u32]) -> &[u32]
-    ensures { λ r. ⌜ now r ≡ ownRows (now (table .entry)) ⌝ }
-{
-    if table.len() <= 7696 {
-        return &table[table.len()..];
-    }
-    let n = 4 * word(table, 1) as usize;
-    if n < table.len() - 7696 {
-        &table[7696..7696 + n]
-    } else {
-        &table[7696..]
-    }
-}
 
 // The exponent of a power, as it is handed over.
 fn exponent(s: &[u8]) -> Exponent

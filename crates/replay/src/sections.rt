@@ -49,7 +49,8 @@ fn section(s: &[u8], group: u32, image: &mut [u8]) -> Walked
 {
     let packed = u32_at(s, 4) as usize;
     stored::unpack(front(after(s, 12), packed), image);
-    let table = written::table_words(front(image, u32_at(s, 0) as usize));
+    let mut table = [0u32; 9296];
+    compile::compile(front(image, u32_at(s, 0) as usize), &mut table);
     let found = replay(after(s, 12 + packed), group, u16_at(s, 8), &table);
     Walked {
         agreed: found.agreed,

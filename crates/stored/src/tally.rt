@@ -12,5 +12,5 @@ pub const UNREADABLE: Tally = Tally {
     requests: 0,
 };
 
-// Room for the largest file and a byte more, on the stack.
-pub const ROOM: usize = 917504;
+// Room on the stack for the largest file that is read as a whole, and a byte more. A proof about more than this would run out of room itself.
+pub const ROOM: usize = 655360;
