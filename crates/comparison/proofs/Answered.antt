@@ -3,18 +3,20 @@ use Prim.Native.Nat.{ℕ}
 use mathlib.Core.Path.{_≡_, refl, sym, _∙_, ap}
 use mathlib.Core.Bool.{Bool, true, false, true≢false}
 use mathlib.Core.List.{List}
+use native.Mathlib.Omega.{arith}
 use lib.Dec.{eqb}
 use lib.ListN.{length}
+use borrow.Author.Tests.{eq-eqb}
 use Rattle.laws.specs.Options.{isSome}
 use Rattle.laws.specs.Out.{given, refused}
 use Rattle.dimension.specs.declared.dimensions.Dimensions.{Dimensions}
 use Rattle.dimension.specs.declared.grade.ProductOp.{ProductOp}
-use Rattle.dimension.specs.declared.grade.ProductOp.the-variants.{Mul, Div, Dot, Wedge}
-use Rattle.rules.specs.Kinds.{Rows, Graded}
+use Rattle.rules.specs.Kinds.{Rows, Graded, opWord}
 use Rattle.rules.specs.Refusal.{Refusal, Fault, Placed, told, codeOf, ImageLength, WrongBlock, Schema, WrongByte, Short, EmptyId, Duplicate, Unknown, AffineDimensionMismatch, NestedAffineSpace, InvalidDimensionlessKind, InvalidTimeKind, NoTimeKind, PointRate, UnresolvedDimensions, RateMismatch, AlsoRateOf, CommutativeQuotient, Point, Ungraded, InvalidOperationRule, DerivedOperationRule, ConflictingOperationRule, PowerOverLimits, NoTable, NoKind, KindMismatch, UnsupportedOperation, UnresolvedTwin, NoProductKind, UngradedPower, NoPowerKind, UnresolvedPowerTwin, NumberTerm, Malformed}
 use Rattle.rules.specs.Formula as rule
 use Rattle.guarantees.specs.Larger.{lifts}
 use Rattle.guarantees.specs.Calls.{fault}
+use Rattle.guarantees.proofs.RowRules.{same-op}
 use Rattle.error.specs.Shown.{errorOf, besides, saidOf}
 use Rattle.error.specs.declared.answer.Answer.{Answer}
 use Rattle.error.specs.declared.answer.Verdict.the-variants as verdict
@@ -96,22 +98,7 @@ apart x e n p q r t =
     true≢false (sym t ∙ w)
 
 code-one : (a b : ProductOp) → codeOf a ≡ codeOf b → a ≡ b
-code-one Mul Mul e = refl
-code-one Mul Div e = cc
-code-one Mul Dot e = cc
-code-one Mul Wedge e = cc
-code-one Div Mul e = cc
-code-one Div Div e = refl
-code-one Div Dot e = cc
-code-one Div Wedge e = cc
-code-one Dot Mul e = cc
-code-one Dot Div e = cc
-code-one Dot Dot e = refl
-code-one Dot Wedge e = cc
-code-one Wedge Mul e = cc
-code-one Wedge Div e = cc
-code-one Wedge Dot e = cc
-code-one Wedge Wedge e = refl
+code-one a b e = same-op a b (eq-eqb (opWord a) (opWord b) (omega arith))
 
 -- 44
 pub twin-given : (x : Refusal) (l : ℕ) (op : ProductOp) (r n : ℕ) → errorOf x ≡ code.UnresolvedTwin l (codeOf op) r n → (ks : List ℕ) × (x ≡ UnresolvedTwin l op r ks)

@@ -1,10 +1,9 @@
 -- The premises are met: by the teaching catalog's image and by that with a row 6 × 7 = 1, which lifts the 44 of area × bore. Assumes nothing.
 use Prim.Native.Nat.{ℕ}
-use mathlib.Core.Path.{_≡_, refl, sym, _∙_, ap}
+use mathlib.Core.Path.{_≡_, sym, _∙_, ap}
 use mathlib.Core.Bool.{true}
 use mathlib.Core.List.{List}
 use Rattle.laws.specs.Options.{isSome}
-use Rattle.laws.specs.Out.{refused}
 use Rattle.dimension.specs.declared.grade.ProductOp.the-variants.{Mul}
 use Rattle.rules.specs.Refusal.{Placed}
 use Rattle.rules.specs.Formula.{Term}
@@ -12,14 +11,13 @@ use Rattle.rules.specs.Image.{compileImage}
 use Rattle.teaching.specs.Image.{image}
 use Rattle.teaching.proofs.Compiles.{compiled}
 use Rattle.guarantees.specs.LargerImage.{largerImage}
-use Rattle.guarantees.specs.Calls.{callOver}
 use Rattle.guarantees.proofs.WithRow.{larger, premises-met, areaByBore, row-there, twins-without}
 use Rattle.error.specs.declared.answer.Verdict.the-variants.{Refused}
 use Rattle.error.specs.declared.cause.Error.the-variants.{UnresolvedTwin}
 use Rattle.formula.specs.Shown.{termed}
 use Rattle.comparison.specs.declared.runs.Both.{Both}
 use Rattle.comparison.specs.declared.runs.Returned.{Returned}
-use Rattle.comparison.specs.Shown.{blankTable, blankTwins, called, bothOf}
+use Rattle.comparison.specs.Shown.{blankTable, blankTwins, bothOf}
 use Rattle.comparison.specs.Returned.{TwoImages, pastPlace, Demand3Returned}
 use Rattle.comparison.proofs.Returned.{long, enough, run-is, demand3-returned}
 

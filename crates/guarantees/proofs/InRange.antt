@@ -20,7 +20,8 @@ use Rattle.rules.specs.Formula.{Unary, exact, inexact, absolute, Binary, combin
 use Rattle.guarantees.specs.Premises.{Guaranteed}
 use Rattle.guarantees.proofs.Picks.{head-passes}
 use Rattle.guarantees.proofs.ProductLaws.{Within, product-in}
-use Rattle.guarantees.proofs.Calculated.{never, agreed, scaled-tells}
+use Rattle.guarantees.proofs.Powers.{never}
+use Rattle.guarantees.proofs.Calculated.{agreed, scaled-tells}
 use Rattle.guarantees.proofs.Terms.{made}
 use Rattle.guarantees.proofs.Reached.{Keeps}
 

@@ -26,6 +26,7 @@ pub mod Derived
 mod Neutral
 mod Rated
 pub mod Products
+mod Powers
 -- what is calculated from the leaves
 pub mod Calculated
 pub mod Terms

@@ -16,7 +16,7 @@ use Rattle.guarantees.specs.Premises.{IsRow}
 use Rattle.guarantees.proofs.Given.{test-given, several-given, cond-given, not-true, and-apart, some-false, meant-is}
 use Rattle.guarantees.proofs.KindRules.{find-below, called-given, in-count}
 
-same-op : (a b : ProductOp) → sameOp a b ≡ true → a ≡ b
+pub same-op : (a b : ProductOp) → sameOp a b ≡ true → a ≡ b
 same-op Mul Mul e = refl
 same-op Mul Div e = cc
 same-op Mul Dot e = cc

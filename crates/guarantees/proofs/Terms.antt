@@ -18,7 +18,8 @@ use Rattle.rules.specs.Formula.{Token, Unary, exact, inexact, absolute, inLimit
 use Rattle.guarantees.specs.Premises.{Guaranteed, Scalars}
 use Rattle.guarantees.proofs.Missing.{within-positive}
 use Rattle.guarantees.proofs.Follows.{Follows, walk-follows}
-use Rattle.guarantees.proofs.Calculated.{never, agreed, scaled-tells, sum-meant, product-meant, power-meant}
+use Rattle.guarantees.proofs.Powers.{never}
+use Rattle.guarantees.proofs.Calculated.{agreed, scaled-tells, sum-meant, product-meant, power-meant}
 
 -- what a mapped answer was made from
 pub made : (m : Answer ℕ) (a : Term) → mapped Kind m ≡ given a → (k : ℕ) × (m ≡ given k) × (Kind k ≡ a)

@@ -9,10 +9,15 @@ use Rattle.rules.specs.Refusal as refusal
 
 -- the causes of 01's table, each named as the refusal that has it, without what is returned
 pub data Cause : Type 0 where
-  -- 1 to 5, 10 to 28, 40 to 50
+  -- 1 to 5: lent buffers and bytes
   ImageLength WrongBlock Schema WrongByte Short : Cause
-  EmptyId Duplicate Unknown AffineDimensionMismatch NestedAffineSpace InvalidDimensionlessKind InvalidTimeKind NoTimeKind PointRate UnresolvedDimensions RateMismatch AlsoRateOf CommutativeQuotient Point Ungraded InvalidOperationRule DerivedOperationRule ConflictingOperationRule PowerOverLimits : Cause
-  NoTable NoKind KindMismatch UnsupportedOperation UnresolvedTwin NoProductKind UngradedPower NoPowerKind UnresolvedPowerTwin NumberTerm Malformed : Cause
+  -- 10 to 28: kinds, rates, rows, powers
+  EmptyId Duplicate Unknown AffineDimensionMismatch NestedAffineSpace InvalidDimensionlessKind InvalidTimeKind : Cause
+  NoTimeKind PointRate UnresolvedDimensions RateMismatch AlsoRateOf : Cause
+  CommutativeQuotient Point Ungraded InvalidOperationRule DerivedOperationRule ConflictingOperationRule PowerOverLimits : Cause
+  -- 40 to 50: lookups and formulas
+  NoTable NoKind KindMismatch UnsupportedOperation UnresolvedTwin NoProductKind : Cause
+  UngradedPower NoPowerKind UnresolvedPowerTwin NumberTerm Malformed : Cause
 
 abbrev pub causeOf : Refusal → Cause
 causeOf (refusal.ImageLength n) = ImageLength
@@ -55,10 +60,13 @@ causeOf (refusal.Malformed p) = Malformed
 abbrev pub causes : List (Option Cause)
 causes =
     none ∷ some ImageLength ∷ some WrongBlock ∷ some Schema ∷ some WrongByte ∷ some Short ∷ none ∷ none ∷ none ∷ none
-    ∷ some EmptyId ∷ some Duplicate ∷ some Unknown ∷ some AffineDimensionMismatch ∷ some NestedAffineSpace ∷ some InvalidDimensionlessKind ∷ some InvalidTimeKind ∷ some NoTimeKind ∷ some PointRate ∷ some UnresolvedDimensions
-    ∷ some RateMismatch ∷ some AlsoRateOf ∷ some CommutativeQuotient ∷ some Point ∷ some Ungraded ∷ some InvalidOperationRule ∷ some DerivedOperationRule ∷ some ConflictingOperationRule ∷ some PowerOverLimits ∷ none
+    ∷ some EmptyId ∷ some Duplicate ∷ some Unknown ∷ some AffineDimensionMismatch ∷ some NestedAffineSpace
+    ∷ some InvalidDimensionlessKind ∷ some InvalidTimeKind ∷ some NoTimeKind ∷ some PointRate ∷ some UnresolvedDimensions
+    ∷ some RateMismatch ∷ some AlsoRateOf ∷ some CommutativeQuotient ∷ some Point ∷ some Ungraded
+    ∷ some InvalidOperationRule ∷ some DerivedOperationRule ∷ some ConflictingOperationRule ∷ some PowerOverLimits ∷ none
     ∷ none ∷ none ∷ none ∷ none ∷ none ∷ none ∷ none ∷ none ∷ none ∷ none
-    ∷ some NoTable ∷ some NoKind ∷ some KindMismatch ∷ some UnsupportedOperation ∷ some UnresolvedTwin ∷ some NoProductKind ∷ some UngradedPower ∷ some NoPowerKind ∷ some UnresolvedPowerTwin ∷ some NumberTerm ∷ some Malformed ∷ []
+    ∷ some NoTable ∷ some NoKind ∷ some KindMismatch ∷ some UnsupportedOperation ∷ some UnresolvedTwin ∷ some NoProductKind
+    ∷ some UngradedPower ∷ some NoPowerKind ∷ some UnresolvedPowerTwin ∷ some NumberTerm ∷ some Malformed ∷ []
 
 unfoldable pub causeBy : ℕ → Option Cause
 causeBy n = getD causes n none
