@@ -1,3 +1,4 @@
--- Ids compared byte by byte, and the first kind of an id.
+-- Ids compared byte by byte, the first kind of an id, and ids told apart by keys.
 mod Alike
 pub mod Found
+pub mod Keyed

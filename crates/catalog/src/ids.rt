@@ -56,7 +56,7 @@ pub fn same_at(image: &[u8], p: u32, q: u32) -> bool
 }
 
 // Whether kind k has the id at p.
-fn names(image: &[u8], k: u16, p: u32) -> bool
+pub(crate) fn names(image: &[u8], k: u16, p: u32) -> bool
     requires { ⌜ k < layout.kindCount (now image) ⌝ }
     ensures { λ r. ⌜ r ≡ same (catalogIn (now (image .entry)) .kind k .id) (idAt (now (image .entry)) p) ⌝ }
 {

@@ -2,6 +2,7 @@
 // answered, and what lies past the end is 0.
 mod fields;
 mod ids;
+mod keys;
 mod records;
 
 pub use fields::dims_at;
@@ -13,6 +14,11 @@ pub use ids::blank_at;
 pub use ids::find_at;
 pub use ids::link_at;
 pub use ids::same_at;
+pub use keys::Keys;
+pub use keys::find_by;
+pub use keys::key_at;
+pub use keys::keys_of;
+pub use keys::link_by;
 pub use records::DIMENSIONLESS;
 pub use records::TIME;
 pub use records::kind_count;

@@ -15,7 +15,9 @@ use Rattle.rules.specs.Refusal.{told, EmptyId, Duplicate}
 use Rattle.rules.specs.Catalog.{Catalog, idAt, kindAt, kindFrom, catalogIn, blank, same, find}
 use Rattle.rules.specs.Compile.{idRule}
 use Rattle.table.proofs.Links.{to-some, nowhere-none}
+use Rattle.catalog.specs.Keys.{keysIn, findBy}
 use Rattle.catalog.proofs.Found.{kind-in}
+use Rattle.catalog.proofs.Keyed.{own-find}
 use Rattle.error.specs.Shown.{answer, linked}
 use Rattle.error.specs.declared.answer.Answer.{Answer}
 use Rattle.error.specs.declared.answer.Verdict.the-variants.{Refused}
@@ -32,8 +34,11 @@ module _ (s : List ℕ) (k : ℕ) {q : ℕ} (a : q ≡ kindAt k) (l : k < kindCo
   unfolding kindFrom
   id-at = rw (kind-in s k l, a)
 
-  -- ---- u is the first kind of the id
-  module _ {u : Link} (e : u ≡ linked (find (catalogIn s) (idAt s q))) where
+  -- ---- u is the first kind of the id, by the image's own keys
+  module _ {keys : List ℕ} (o : keys ≡ keysIn s) {u : Link} (d : u ≡ linked (findBy s keys q)) where
+    e : u ≡ linked (find (catalogIn s) (idAt s q))
+    e = rw (own-find s o q) at d
+
     found-first : {o : Option ℕ} → find (catalogIn s) (idAt s q) ≡ o → first (λ j. same (catalogIn s .kind j .id) (catalogIn s .kind k .id)) (kindCount s) ≡ o
     unfolding find catalogIn
     found-first p = rw id-at at p

@@ -5,6 +5,7 @@ use crate::kinds::check_kinds;
 use crate::links::check_dimensionless;
 use crate::links::check_time;
 use crate::rows::check_rows;
+use catalog::keys_of;
 use error::Answer;
 use error::Verdict;
 use image::check_lent;
@@ -27,12 +28,14 @@ fn check_declared(image: &[u8], t: &[u32]) -> Answer
     requires { ⌜ Reads (now t) (now image) ⌝ }
     ensures { λ r. ⌜ r ≡ fine (kindsRuled (catalogIn (now (image .entry)))) ⌝ }
 {
-    let ids = check_kinds(image, t, Rule::Id);
+    let listed = keys_of(image);
+    let keys = listed.words;
+    let ids = check_kinds(image, t, &keys, Rule::Id);
     let told_ids = ids.verdict;
     if let Verdict::Refused(e) = told_ids {
         return ids;
     }
-    let differences = check_kinds(image, t, Rule::Difference);
+    let differences = check_kinds(image, t, &keys, Rule::Difference);
     let told_differences = differences.verdict;
     if let Verdict::Refused(e) = told_differences {
         return differences;
@@ -47,7 +50,7 @@ fn check_declared(image: &[u8], t: &[u32]) -> Answer
     if let Verdict::Refused(e) = told_instant {
         return instant;
     }
-    check_kinds(image, t, Rule::Rate)
+    check_kinds(image, t, &keys, Rule::Rate)
 }
 
 // 10 to 27.

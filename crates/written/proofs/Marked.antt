@@ -14,8 +14,10 @@ use Rattle.dimension.specs.Fraction as F
 use Rattle.dimension.specs.Dimension as D
 use Rattle.dimension.specs.declared.rational.Rational.{Rational}
 use Rattle.dimension.specs.declared.dimensions.Dimensions.{Dimensions}
-use Rattle.rules.specs.Catalog.{Kind, idAt, kindAt, kindFrom, rowAt, catalogIn, find}
+use Rattle.rules.specs.Catalog.{Kind, idAt, kindAt, kindFrom, rowAt, catalogIn, find, link}
 use Rattle.rules.specs.Table.{indexWord, exponentWord}
+use Rattle.catalog.specs.Keys.{keysIn, findBy, linkBy}
+use Rattle.catalog.proofs.Keyed.{own-find, own-link}
 use Rattle.error.specs.Shown.{linked}
 use Rattle.error.specs.declared.answer.Link.{Link}
 use Rattle.laws.proofs.Tab.{length-tab}
@@ -28,9 +30,14 @@ unfolding indexBy
 index-linked (some k) p e = e ∙ rw p
 index-linked none p e = e ∙ rw p
 
-pub row-linked : (s : List ℕ) (j : ℕ) {p : ℕ} {l : Link} {v : ℕ} → p ≡ rowAt s (j / 3) → l ≡ linked (find (catalogIn s) (idAt s (p + 32 * (j % 3)))) → v ≡ indexBy l → v ≡ rowLink s j
-unfolding rowLink
-row-linked s j {p} q e i = index-linked (find (catalogIn s) (idAt s (p + 32 * (j % 3)))) e i ∙ rw q
+-- of what is found by the image's own keys
+module _ (s : List ℕ) {keys : List ℕ} (o : keys ≡ keysIn s) {l : Link} {v : ℕ} (i : v ≡ indexBy l) where
+  pub index-own : (p : ℕ) → l ≡ linked (linkBy s keys p) → v ≡ indexWord (link (catalogIn s) (idAt s p))
+  index-own p e = index-linked (link (catalogIn s) (idAt s p)) (rw (own-link s o p) at e) i
+
+  pub row-linked : (j : ℕ) {p : ℕ} → p ≡ rowAt s (j / 3) → l ≡ linked (findBy s keys (p + 32 * (j % 3))) → v ≡ rowLink s j
+  unfolding rowLink
+  row-linked j {p} q e = index-linked (find (catalogIn s) (idAt s (p + 32 * (j % 3)))) (rw (own-find s o (p + 32 * (j % 3))) at e) i ∙ rw q
 
 -- ---- a test of two parts, of which the code looks at the second where the first holds
 pub and-then : {a b r : Bool} → a ≡ true → r ≡ b → r ≡ (a && b)

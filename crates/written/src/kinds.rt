@@ -11,6 +11,7 @@ ghost use lib.ListN.{length, replicate};
 ghost use Rattle.laws.specs.Ranges.{tab, overlay};
 ghost use Rattle.rules.specs.Layout as layout;
 ghost use Rattle.rules.specs.Catalog.{catalogIn};
+ghost use Rattle.catalog.specs.Keys.{keysIn};
 ghost use Rattle.written.specs.Shown.{flat, kindIn, kindsWord};
 
 // The words of the first n kinds, by the lists of their links; zeros past them.
@@ -47,14 +48,15 @@ fn kinds_by(
     out
 }
 
-// The words of the kinds that an image declares.
-pub(crate) fn kinds_words(image: &[u8]) -> [u32; 7680]
+// The words of the kinds that an image declares, by their keys.
+pub(crate) fn kinds_words(image: &[u8], keys: &[u32]) -> [u32; 7680]
+    requires { ⌜ now keys ≡ keysIn (now image) ⌝ }
     requires { ⌜ layout.kindCount (now image) ≤ 240 ⌝ }
     ensures { λ r. ⌜ r ≡ overlay (tab (kindsWord (catalogIn (now (image .entry)))) (32 * layout.kindCount (now (image .entry)))) (replicate 7680 0) ⌝ }
 {
     let n = kind_count(image);
-    let differences = links_at(image, 32);
-    let targets = links_at(image, 64);
+    let differences = links_at(image, keys, 32);
+    let targets = links_at(image, keys, 64);
     let named = firsts(&differences, n);
     let rates = firsts(&targets, n);
     kinds_by(image, n, &differences, &targets, &named, &rates)

@@ -1,7 +1,7 @@
-// What the ids of kinds name, as lists of indexes with 65,535 for none.
+// What the ids of kinds name, as lists of indexes with 65,535 for none. The keys are those of the image's kinds.
 use catalog::kind_count;
 use catalog::kind_place;
-use catalog::link_at;
+use catalog::link_by;
 use error::Link;
 ghost use mathlib.Core.Path.{_≡_};
 ghost use mathlib.Core.Bool.{_&&_};
@@ -12,6 +12,7 @@ ghost use Rattle.laws.specs.Ranges.{tab};
 ghost use Rattle.rules.specs.Layout as layout;
 ghost use Rattle.rules.specs.Catalog.{idAt, catalogIn, link};
 ghost use Rattle.rules.specs.Table.{indexWord};
+ghost use Rattle.catalog.specs.Keys.{keysIn};
 ghost use Rattle.written.specs.Shown.{indexBy, linkWord, firstWord};
 
 // A link as an index.
@@ -25,22 +26,25 @@ pub(crate) fn index(l: Link) -> u16
 }
 
 // The kind that the id at p names.
-pub(crate) fn link_word(image: &[u8], p: u32) -> u16
+pub(crate) fn link_word(image: &[u8], keys: &[u32], p: u32) -> u16
+    requires { ⌜ now keys ≡ keysIn (now image) ⌝ }
     ensures { λ r. ⌜ r ≡ indexWord (link (catalogIn (now (image .entry))) (idAt (now (image .entry)) p)) ⌝ }
 {
-    index(link_at(image, p))
+    index(link_by(image, keys, p))
 }
 
 // What the id at byte `at` of kind k names.
-fn link_of(image: &[u8], at: u32, k: u16) -> u16
+fn link_of(image: &[u8], keys: &[u32], at: u32, k: u16) -> u16
+    requires { ⌜ now keys ≡ keysIn (now image) ⌝ }
     requires { ⌜ at ≤ 64 ⌝ }
     ensures { λ r. ⌜ r ≡ linkWord (now (image .entry)) at k ⌝ }
 {
-    link_word(image, kind_place(k) + at)
+    link_word(image, keys, kind_place(k) + at)
 }
 
 // What the ids at byte `at` of the kinds name: the difference at 32, what a kind is the rate of at 64.
-pub(crate) fn links_at(image: &[u8], at: u32) -> [u16; 240]
+pub(crate) fn links_at(image: &[u8], keys: &[u32], at: u32) -> [u16; 240]
+    requires { ⌜ now keys ≡ keysIn (now image) ⌝ }
     requires { ⌜ layout.kindCount (now image) ≤ 240 ⌝ }
     requires { ⌜ at ≤ 64 ⌝ }
     ensures { λ r. ⌜ take (layout.kindCount (now (image .entry))) r ≡ tab (linkWord (now (image .entry)) at) (layout.kindCount (now (image .entry))) ⌝ }
@@ -49,7 +53,7 @@ pub(crate) fn links_at(image: &[u8], at: u32) -> [u16; 240]
     let mut list = [65535u16; 240];
     let mut k: u16 = 0;
     while k < n {
-        list[k as usize] = link_of(image, at, k);
+        list[k as usize] = link_of(image, keys, at, k);
         k += 1;
     }
     list

@@ -1,7 +1,7 @@
-// What the ids of rows name, and the rows in force.
+// What the ids of rows name, by the keys of the image's kinds, and the rows in force.
 use crate::links::index;
 use crate::words::put;
-use catalog::find_at;
+use catalog::find_by;
 use catalog::is_commutative;
 use catalog::op_at;
 use catalog::row_count;
@@ -15,6 +15,7 @@ ghost use Rattle.rules.specs.Kinds as K;
 ghost use Rattle.rules.specs.Layout as layout;
 ghost use Rattle.rules.specs.Catalog.{catalogIn, rowFrom};
 ghost use Rattle.rules.specs.Table.{inForce};
+ghost use Rattle.catalog.specs.Keys.{keysIn};
 ghost use Rattle.written.specs.Shown.{entryWords, entriesBy, rowLink, linksIn};
 
 // The words that a row enters: the first `count` of them.
@@ -30,16 +31,18 @@ pub(crate) struct Force {
 }
 
 // What id j of all rows names: three ids a row, 32 bytes each.
-fn row_link(image: &[u8], j: u16) -> u16
+fn row_link(image: &[u8], keys: &[u32], j: u16) -> u16
+    requires { ⌜ now keys ≡ keysIn (now image) ⌝ }
     requires { ⌜ layout.kindCount (now image) ≤ 240 ⌝ }
     ensures { λ r. ⌜ r ≡ rowLink (now (image .entry)) j ⌝ }
 {
     let p = row_place(image, j / 3) + 32 * (j % 3) as u32;
-    index(find_at(image, p))
+    index(find_by(image, keys, p))
 }
 
 // What the ids of the rows name.
-pub(crate) fn row_links(image: &[u8]) -> [u16; 600]
+pub(crate) fn row_links(image: &[u8], keys: &[u32]) -> [u16; 600]
+    requires { ⌜ now keys ≡ keysIn (now image) ⌝ }
     requires { ⌜ layout.kindCount (now image) ≤ 240 ⌝ }
     requires { ⌜ layout.rowCount (now image) ≤ 200 ⌝ }
     ensures { λ r. ⌜ r ≡ linksIn (now (image .entry)) ⌝ }
@@ -48,7 +51,7 @@ pub(crate) fn row_links(image: &[u8]) -> [u16; 600]
     let mut links = [65535u16; 600];
     let mut j: u16 = 0;
     while j < n {
-        links[j as usize] = row_link(image, j);
+        links[j as usize] = row_link(image, keys, j);
         j += 1;
     }
     links

@@ -6,6 +6,7 @@ use crate::rows::rows_words;
 use crate::words::word;
 use catalog::DIMENSIONLESS;
 use catalog::TIME;
+use catalog::keys_of;
 use catalog::kind_count;
 use catalog::row_count;
 ghost use mathlib.Core.Path.{_≡_};
@@ -15,6 +16,7 @@ ghost use Rattle.laws.specs.Ranges.{tab};
 ghost use Rattle.rules.specs.Layout as layout;
 ghost use Rattle.rules.specs.Catalog.{catalogIn, idAt, link};
 ghost use Rattle.rules.specs.Table.{indexWord, tableWords};
+ghost use Rattle.catalog.specs.Keys.{keysIn};
 ghost use Rattle.written.specs.Shown.{partWord, wordsFor, linksIn, linksFor};
 
 // The words that a compilation writes, and what the ids of the rows name: three a row (left, right, result), 65,535 for none.
@@ -24,15 +26,16 @@ pub struct Written {
 }
 
 // The first four words; `used` is how many words the rows in force take.
-fn head_words(image: &[u8], used: usize) -> [u32; 4]
+fn head_words(image: &[u8], keys: &[u32], used: usize) -> [u32; 4]
+    requires { ⌜ now keys ≡ keysIn (now image) ⌝ }
     requires { ⌜ used ≤ 1600 ⌝ }
     ensures { λ r. ⌜ r ≡ layout.kindCount (now (image .entry)) ∷ used / 4 ∷ indexWord (link (catalogIn (now (image .entry))) (idAt (now (image .entry)) 12)) ∷ indexWord (link (catalogIn (now (image .entry))) (idAt (now (image .entry)) 44)) ∷ [] ⌝ }
 {
     [
         kind_count(image) as u32,
         (used / 4) as u32,
-        link_word(image, DIMENSIONLESS) as u32,
-        link_word(image, TIME) as u32,
+        link_word(image, keys, DIMENSIONLESS) as u32,
+        link_word(image, keys, TIME) as u32,
     ]
 }
 
@@ -69,10 +72,12 @@ fn table_of(image: &[u8]) -> Written
     ensures { λ r. ⌜ r .words ≡ tableWords (catalogIn (now (image .entry))) ⌝ }
     ensures { λ r. ⌜ r .links ≡ linksIn (now (image .entry)) ⌝ }
 {
-    let links = row_links(image);
-    let kinds = kinds_words(image);
+    let listed = keys_of(image);
+    let keys = listed.words;
+    let links = row_links(image, &keys);
+    let kinds = kinds_words(image, &keys);
     let force = rows_words(image, &links);
-    let head = head_words(image, force.used);
+    let head = head_words(image, &keys, force.used);
     let rows = force.words;
     Written {
         words: joined(&head, &kinds, &rows),

@@ -16,14 +16,14 @@ returns c =
 returns-2 : tie.Need-returns-2
 returns-2 c =
     let b = c .before .before .before in
-    let a = b .before in
+    let a = b .before .before in
     differences-refused _ (kinds-told _ Id (a .before .check-kinds .ensures)) (λ x p. miss butRefused 3 (tt {0}) (rw p at (a .match .keys2))) (kinds-told _ Difference (b .check-kinds2 .ensures)) (c .before .told-differences .given .1)
 
 returns-3 : tie.Need-returns-3
 returns-3 c =
     let d = c .before .before .before in
     let b = d .before in
-    let a = b .before .before in
+    let a = b .before .before .before in
     neutral-refused _ (kinds-told _ Id (a .before .check-kinds .ensures)) (λ x p. miss butRefused 3 (tt {0}) (rw p at (a .match .keys2)))
     (kinds-told _ Difference (b .before .check-kinds2 .ensures)) (λ x p. miss butRefused 3 (tt {0}) (rw p at (b .match2 .keys2)))
     (rule-told 12 _ (d .check-dimensionless .ensures)) (c .before .told-neutral .given .1)
@@ -33,18 +33,23 @@ returns-4 c =
     let e = c .before .before .before in
     let d = e .before in
     let b = d .before .before in
-    let a = b .before .before in
+    let a = b .before .before .before in
     instant-refused _ (kinds-told _ Id (a .before .check-kinds .ensures)) (λ x p. miss butRefused 3 (tt {0}) (rw p at (a .match .keys2)))
     (kinds-told _ Difference (b .before .check-kinds2 .ensures)) (λ x p. miss butRefused 3 (tt {0}) (rw p at (b .match2 .keys2)))
     (rule-told 12 _ (d .before .check-dimensionless .ensures)) (λ x p. miss butRefused 3 (tt {0}) (rw p at (d .match3 .keys2)))
     (rule-told 44 _ (e .check-time .ensures)) (c .before .told-instant .given .1)
 
+check-kinds-requires-3 : tie.Need-check-kinds-requires-3
+check-kinds-requires-3 c κs =
+    let k = c .before .before .before .before .before .before .before .before .before .before .before .before in
+    (k .keys-of .ensures .0, k .before .before .before .pre)
+
 returns-5 : tie.Need-returns-5
 returns-5 c =
-    let e = c .before in
+    let e = c .before .before in
     let d = e .before .before in
     let b = d .before .before in
-    let a = b .before .before in
+    let a = b .before .before .before in
     rates-answer _ (kinds-told _ Id (a .before .check-kinds .ensures)) (λ x p. miss butRefused 3 (tt {0}) (rw p at (a .match .keys2)))
     (kinds-told _ Difference (b .before .check-kinds2 .ensures)) (λ x p. miss butRefused 3 (tt {0}) (rw p at (b .match2 .keys2)))
     (rule-told 12 _ (d .before .check-dimensionless .ensures)) (λ x p. miss butRefused 3 (tt {0}) (rw p at (d .match3 .keys2)))
@@ -52,4 +57,4 @@ returns-5 c =
     (kinds-told _ Rate (c .check-kinds3 .ensures))
 
 pub check-declared-spec : {M : Type 1} → statement M
-check-declared-spec = tie.close (tie.spec (λ c κs. search needs) (search needs) returns (λ c κs. search needs) (search needs) returns-2 (λ c κs. search needs) (search needs) returns-3 (λ c κs. search needs) (search needs) returns-4 (λ c κs. search needs) returns-5)
+check-declared-spec = tie.close (tie.spec (search needs) (search needs) (λ c κs. search needs) (search needs) returns (search needs) (λ c κs. search needs) (search needs) returns-2 (λ c κs. search needs) (search needs) returns-3 (λ c κs. search needs) (search needs) returns-4 (search needs) check-kinds-requires-3 returns-5)

@@ -6,4 +6,4 @@ use Rattle.compile.proofs.ids.check_id.Statement.{statement}
 use Rattle.compile.proofs.ids.check_id.Tie as tie
 
 pub check-id-spec : {M : Type 1} → statement M
-check-id-spec = tie.close (tie.spec (search needs) (search needs) (search needs) (λ c. search (own, needs)) (search needs) (search needs) (λ c. search (own, needs)) (search needs) (λ c. search (own, needs)))
+check-id-spec = tie.close (tie.spec (search needs) (search needs) (search needs) (λ c. search (own, needs)) (λ c κs. search needs) (search needs) (λ c. search (own, needs)) (search needs) (λ c. search (own, needs)))

@@ -14,4 +14,4 @@ returns-3 : tie.Need-returns-3
 returns-3 c = rw (c .before .enum-told3 .given .1) (c .check-rate .ensures)
 
 pub check-kind-spec : {M : Type 1} → statement M
-check-kind-spec = tie.close (tie.spec (search needs) (search needs) (search needs) (λ c κs. search needs) (search needs) (λ c κs. search needs) returns returns-2 returns-3)
+check-kind-spec = tie.close (tie.spec (search needs) (λ c κs. search needs) (search needs) (λ c κs. search needs) (search needs) (λ c κs. search needs) returns returns-2 returns-3)

@@ -15,15 +15,15 @@ use Rattle.compile.proofs.kinds.check_kinds.Statement.{statement}
 use Rattle.compile.proofs.kinds.check_kinds.Tie as tie
 
 abbrev Inv-loop : tie.InvT-loop
-Inv-loop image t rule n k₀ k = (k ≤ n) × (n ≡ kindCount image) × (each (λ j. at j (asked rule (catalogIn image) j)) k ≡ given tt)
+Inv-loop image t keys rule n k₀ k = (k ≤ n) × (n ≡ kindCount image) × (each (λ j. at j (asked rule (catalogIn image) j)) k ≡ given tt)
 
 abbrev μ-loop : tie.MeasureT-loop
-μ-loop image t rule n k₀ k = n - k
+μ-loop image t keys rule n k₀ k = n - k
 
 loop-again : tie.Need-loop-again Inv-loop μ-loop
 loop-again c =
     let s = c .before .before .before in
-    let a = s .before .before .before .before .args in
+    let a = s .before .before .before .before .before .args in
     (search needs, s .loop .inv .1, all-next (asked (a .rule) (catalogIn (a .image .now))) (s .loop .k) (s .loop .inv .2) (c .before .check-kind .ensures) (λ x p. miss butRefused 3 (tt {0}) (rw p at (c .match .keys2))))
 
 pub check-kinds-spec : {M : Type 1} → statement M

@@ -1,7 +1,6 @@
 -- `written::kinds::kinds_words` meets its contract.
 -- Assumes nothing.
 use borrow.Author.Needs.{needs}
-use native.Mathlib.Omega.{arith}
 use Rattle.written.proofs.Kinded.{kinds-told}
 use Rattle.written.proofs.kinds.kinds_words.Statement.{statement}
 use Rattle.written.proofs.kinds.kinds_words.Tie as tie
@@ -11,7 +10,8 @@ returns c =
     let r = c .before .before .before .before .before in
     let f = r .before .before in
     let t = f .before .before in
-    kinds-told _ _ _ _ _ _ (omega arith) (t .before .before .kind-count .ensures) (t .before .links-at .ensures) (t .links-at2 .ensures) (f .firsts .ensures) (r .firsts2 .ensures) (c .kinds-by .ensures)
+    let n = t .before .before in
+    kinds-told _ _ _ _ _ _ (n .before .before .before .pre .1) (n .kind-count .ensures) (t .before .links-at .ensures) (t .links-at2 .ensures) (f .firsts .ensures) (r .firsts2 .ensures) (c .kinds-by .ensures)
 
 pub kinds-words-spec : {M : Type 1} → statement M
-kinds-words-spec = tie.close (tie.spec (search needs) (search needs) (search needs) (search needs) (search needs) (search needs) (search needs) (search needs) (search needs) (search needs) (search needs) (search needs) returns)
+kinds-words-spec = tie.close (tie.spec (search needs) (λ c κs. search needs) (λ c κs. search needs) (search needs) (search needs) (search needs) (search needs) (search needs) (search needs) (search needs) (search needs) (λ c κs. search needs) returns)

@@ -10,4 +10,4 @@ unfolding linkWord
 returns c = cc
 
 pub link-of-spec : {M : Type 1} → statement M
-link-of-spec = tie.close (tie.spec (search needs) (search needs) (search needs) returns)
+link-of-spec = tie.close (tie.spec (search needs) (search needs) (λ c κs. search needs) returns)

@@ -14,10 +14,10 @@ use Rattle.written.proofs.links.links_at.Statement.{statement}
 use Rattle.written.proofs.links.links_at.Tie as tie
 
 abbrev Inv-loop : tie.InvT-loop
-Inv-loop image at n list₀ k₀ list k = (k ≤ n) × (n ≡ kindCount image) × (length list ≡ 240) × (take k list ≡ tab (linkWord image at) k)
+Inv-loop image keys at n list₀ k₀ list k = (k ≤ n) × (n ≡ kindCount image) × (length list ≡ 240) × (take k list ≡ tab (linkWord image at) k)
 
 abbrev μ-loop : tie.MeasureT-loop
-μ-loop image at n list₀ k₀ list k = n - k
+μ-loop image keys at n list₀ k₀ list k = n - k
 
 loop-holds : tie.Need-loop-holds Inv-loop μ-loop
 loop-holds c = (omega arith, c .kind-count .ensures, refl, search (fill-none, needs))
@@ -28,4 +28,4 @@ loop-again c =
     (omega arith, l .inv .1, simp length-set (l .inv .2), fill-next _ _ 240 _ (l .inv .3) (l .inv .2) (omega arith) (c .link-of .ensures))
 
 pub links-at-spec : {M : Type 1} → statement M
-links-at-spec = tie.close (tie.spec Inv-loop μ-loop (search needs) loop-holds (search needs) (search needs) (search needs) (search needs) (search needs) (search needs) loop-again (λ c. search (filled-end, needs)))
+links-at-spec = tie.close (tie.spec Inv-loop μ-loop (search needs) loop-holds (λ c κs. search needs) (search needs) (search needs) (search needs) (search needs) (search needs) loop-again (λ c. search (filled-end, needs)))

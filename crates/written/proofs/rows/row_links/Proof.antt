@@ -13,10 +13,10 @@ use Rattle.written.proofs.rows.row_links.Statement.{statement}
 use Rattle.written.proofs.rows.row_links.Tie as tie
 
 abbrev Inv-loop : tie.InvT-loop
-Inv-loop image n links₀ j₀ links j = (j ≤ n) × (n ≡ 3 * rowCount image) × (length links ≡ 600) × (links ≡ overlay (tab (rowLink image) j) (replicate 600 65535))
+Inv-loop image keys n links₀ j₀ links j = (j ≤ n) × (n ≡ 3 * rowCount image) × (length links ≡ 600) × (links ≡ overlay (tab (rowLink image) j) (replicate 600 65535))
 
 abbrev μ-loop : tie.MeasureT-loop
-μ-loop image n links₀ j₀ links j = n - j
+μ-loop image keys n links₀ j₀ links j = n - j
 
 loop-holds : tie.Need-loop-holds Inv-loop μ-loop
 loop-holds c = (omega arith, omega arith, refl, tab-none _ _)
@@ -30,4 +30,4 @@ returns : tie.Need-returns Inv-loop μ-loop
 returns c = let l = c .before .loop in tab-end _ (l .j) _ _ (l .inv .3) (omega arith) (omega arith)
 
 pub row-links-spec : {M : Type 1} → statement M
-row-links-spec = tie.close (tie.spec Inv-loop μ-loop (search needs) (search needs) loop-holds (search needs) (search needs) (search needs) (search needs) (search needs) (search needs) loop-again returns)
+row-links-spec = tie.close (tie.spec Inv-loop μ-loop (search needs) (search needs) loop-holds (λ c κs. search needs) (search needs) (search needs) (search needs) (search needs) (search needs) loop-again returns)
