@@ -8,7 +8,7 @@ import struct
 from oracle.ask import ROOT, Answer, CompiledKind, CompiledRow
 
 # The program that each file is the data of.
-PROGRAMS = {"exponents.bin": "vectors", "images.bin": "vectors", "compile.bin": "vectors",
+PROGRAMS = {"exponents.bin": "vectors", "images.bin": "vectors", "compile.bin": "replay",
             "lookups.bin": "replay", "formulas.bin": "replay"}
 MAGIC = b"KCA1"
 EXPONENTS, COMPILE, LOOKUPS, FORMULAS, IMAGES = 1, 2, 3, 4, 5

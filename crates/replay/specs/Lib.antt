@@ -1,2 +1,3 @@
--- What the rules answer to a stored request.
+-- What the rules answer to a stored request, and what a stored compilation says of a table.
 pub mod Requests
+pub mod Compiled
