@@ -23,12 +23,15 @@ fn op_word(op: ProductOp) -> u32
     }
 }
 
-// Whether row i is for that very left, operation and right.
+// Whether row i is for that very left, operation and right. Most rows differ in the left already.
 fn row_for(s: &[u32], l: u16, o: u32, r: u16, i: usize) -> bool
     requires { ⌜ i < 2305843009213693952 ⌝ }
     ensures { λ v. ⌜ v ≡ rowFor (now (s .entry)) l o r i ⌝ }
 {
-    (word(s, 4 * i) == l as u32) & (word(s, 4 * i + 1) == o) & (word(s, 4 * i + 2) == r as u32)
+    if word(s, 4 * i) != l as u32 {
+        return false;
+    }
+    (word(s, 4 * i + 1) == o) & (word(s, 4 * i + 2) == r as u32)
 }
 
 // The kind that the first row for a pair names.
