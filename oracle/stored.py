@@ -9,9 +9,10 @@ from oracle.ask import ROOT, Answer, CompiledKind, CompiledRow
 
 # The program that each file is the data of.
 PROGRAMS = {"exponents.bin": "vectors", "images.bin": "vectors", "compile.bin": "replay",
-            "lookups.bin": "replay", "formulas.bin": "replay"}
+            "lookups.bin": "replay", "formulas.bin": "replay",
+            "lines.bin": "replay"}
 MAGIC = b"KCA1"
-EXPONENTS, COMPILE, LOOKUPS, FORMULAS, IMAGES = 1, 2, 3, 4, 5
+EXPONENTS, COMPILE, LOOKUPS, FORMULAS, IMAGES, LINES = 1, 2, 3, 4, 5, 6
 NUMBER, KIND, REFUSED, COMPILED = 0, 1, 2, 3
 UNKNOWN = NONE = 0xFFFF
 ROLES = ("linear", "point", "difference")

@@ -14,7 +14,6 @@ use Rattle.error.specs.Shown.{saidOf, hasDims}
 use Rattle.error.specs.declared.cause.Error.{Error}
 use Rattle.error.specs.declared.cause.Said.{Said}
 use Rattle.error.specs.declared.answer.Answer.{Answer}
-use Rattle.error.specs.declared.answer.Verdict.{Verdict}
 use Rattle.error.specs.declared.answer.Verdict.the-variants.{Fine, Number, Kind, Refused}
 use Rattle.written.specs.Shown.{exponentsOf}
 use Rattle.exports.specs.Sheet.{capped, padded, hasRoom, written}

@@ -1,17 +1,16 @@
 -- What is asked of the libraries is what the request says: one law for each call. Assumes nothing.
 use Prim.Native.Nat.{ℕ, _+_, _*_, _-_, _<_, _≤_}
-use mathlib.Core.Path.{_≡_, refl, sym}
+use mathlib.Core.Path.{_≡_, refl}
 use mathlib.Core.Bool.{Bool, _&&_}
-use mathlib.Core.List.{List, []}
+use mathlib.Core.List.{List}
 use native.Mathlib.Nat.{le-antisymm}
 use native.Mathlib.Numerals.{add-one}
 use lib.IntN.{ℤ}
-use lib.ListN.{length, take, drop, length-drop, drop-of-length-le}
-use lib.Seq.{take-all, take-nil}
+use lib.ListN.{take, drop}
 use borrow.Author.Tests.{lt-ltb, le-ltb, eq-eqb, ne-eqb}
 use Rattle.dimension.specs.Integer.{twos}
 use Rattle.rules.specs.Bytes.{byte, le2, le4}
-use Rattle.rules.specs.Table.{word, ownRows}
+use Rattle.rules.specs.Table.{ownRows}
 use Rattle.rules.specs.Lookup as lone
 use Rattle.rules.specs.Call.{call}
 use Rattle.error.specs.declared.answer.Answer.{Answer}

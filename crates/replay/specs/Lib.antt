@@ -1,3 +1,4 @@
--- What the rules answer to a stored request, and what a stored compilation says of a table.
+-- What the rules answer to a stored request, and what a stored compilation or line says of a table or an input.
 pub mod Requests
 pub mod Compiled
+pub mod Pieces

@@ -108,16 +108,28 @@ pub fn duration(t: &[u32]) -> Link
     }
 }
 
-// Whether the words of kind k stand for the dimensions that w's stand for. It ends at the first pair that differs.
-pub fn same_exponents(t: &[u32], k: u16, w: &[u32]) -> bool
-    ensures { λ r. ⌜ r ≡ D.equal (T.dimsFrom (now (t .entry)) (T.kindPlace k)) (T.dimsFrom (now (w .entry)) 0) ⌝ }
+// Whether the exponents from place p on are those of w. It ends at the first pair that differs.
+fn same_from(t: &[u32], p: usize, w: &[u32]) -> bool
+    requires { ⌜ p < 4294967296 ⌝ }
+    ensures { λ r. ⌜ r ≡ D.equal (T.dimsFrom (now (t .entry)) p) (T.dimsFrom (now (w .entry)) 0) ⌝ }
 {
     let mut b: usize = 0;
     while b < 12 {
-        if !same_pair(t, 16 + 32 * k as usize, w, b) {
+        if !same_pair(t, p, w, b) {
             return false;
         }
         b += 1;
     }
     true
+}
+
+// Whether the words of kind k stand for the dimensions that w's stand for. They are cut out first: of a part of 24 words no place needs a test.
+pub fn same_exponents(t: &[u32], k: u16, w: &[u32]) -> bool
+    ensures { λ r. ⌜ r ≡ D.equal (T.dimsFrom (now (t .entry)) (T.kindPlace k)) (T.dimsFrom (now (w .entry)) 0) ⌝ }
+{
+    let p = 16 + 32 * k as usize;
+    if p + 24 <= t.len() {
+        return same_from(&t[p..p + 24], 0, w);
+    }
+    same_from(t, p, w)
 }

@@ -1,12 +1,13 @@
 -- The table, by its three parts. Assumes nothing.
-use Prim.Native.Nat.{ℕ, _*_, _-_, _/_, _%_, _<_, _≤_}
-use mathlib.Core.Path.{_≡_, refl, sym, _∙_}
+use Prim.Native.Nat.{ℕ, _+_, _*_, _-_, _/_, _%_, _<_, _≤_}
+use mathlib.Core.Path.{_≡_, refl, sym, _∙_, ap, subst}
 use mathlib.Core.Bool.{Bool, true, false, _&&_}
 use mathlib.Core.List.{List, [], _∷_}
 use native.Mathlib.Omega.{arith}
 use borrow.Author.Tests.{ltb-true, ltb-false, leb-true, le-leb}
 use lib.Dec.{ltb, leb}
-use lib.ListN.{length, getD, replicate, List·getD-eq-default}
+use lib.ListN.{length, getD, replicate, length-replicate, List·getD-eq-default}
+use lib.Seq.{paste, take-all, length-paste, ext-getD}
 use Rattle.laws.specs.Ranges.{tab, below, overlay}
 use Rattle.laws.proofs.Cases.{and-left, and-right}
 use Rattle.laws.proofs.Below.{below-in, below-past}
@@ -15,7 +16,7 @@ use Rattle.rules.specs.Layout.{kindCount, rowCount}
 use Rattle.rules.specs.Catalog.{Catalog, idAt, catalogIn, link}
 use Rattle.rules.specs.Table.{word, tableSize, inForce, indexWord, headWords, kindWord, tableWord, tableWords}
 use Rattle.written.specs.Shown.{kindsWord, partWord, wordsFor, linksIn, linksFor}
-use Rattle.written.proofs.Pasted.{over-zeros}
+use Rattle.written.proofs.Pasted.{over-zeros, paste-over, before-put, within-put}
 
 -- word j of all kinds
 kinds-at : (C : Catalog) (n j : ℕ) → getD (tab (kindsWord C) (32 * n)) j 0 ≡ below n 0 (λ k. kindWord C k (j % 32)) (j / 32)
@@ -50,6 +51,44 @@ module _ (C : Catalog) (head kinds rows : List ℕ) (a b : ℕ) (h : head ≡ he
 
   pub parts-told : (n : ℕ) → tab (partWord head kinds rows) n ≡ tab (tableWord C) n
   parts-told n = tab-same (partWord head kinds rows) (tableWord C) n (λ i l. part-told i)
+
+-- the three parts put at their places
+module _ (head kinds rows : List ℕ) {t u v : List ℕ} (h : length head ≡ 4) (k : length kinds ≡ 7680) (r : length rows ≡ 1600) (e : t ≡ paste (replicate 9296 0) 0 head 4) (f : u ≡ paste t 16 kinds 7680) (g : v ≡ paste u 7696 rows 1600) where
+  first-long : length t ≡ 9296
+  first-long = ap length e ∙ length-paste (replicate 9296 0) 0 head 4 (rw (length-replicate {A = ℕ} 9296 0) (omega arith)) (omega arith) ∙ length-replicate {A = ℕ} 9296 0
+
+  second-long : length u ≡ 9296
+  second-long = ap length f ∙ length-paste t 16 kinds 7680 (omega (arith, first-long)) (omega arith) ∙ first-long
+
+  third-long : length v ≡ 9296
+  third-long = ap length g ∙ length-paste u 7696 rows 1600 (omega (arith, second-long)) (omega arith) ∙ second-long
+
+  head-put : (i : ℕ) → getD t i 0 ≡ word head i
+  head-put i = rw e (rw (paste-over [] (replicate 9296 0) head 0 4 refl (omega arith), take-all 4 head (omega arith)) (over-zeros head 9296 i))
+
+  before-rows : (i : ℕ) → i < 7696 → getD v i 0 ≡ getD u i 0
+  before-rows i l = rw g (before-put u 7696 rows 1600 (omega (arith, second-long)) (omega arith) i l)
+
+  put-word : (i : ℕ) → i < 9296 → getD v i 0 ≡ partWord head kinds rows i
+  unfolding partWord
+  put-word i m = go (ltb i 16) refl (ltb i 7696) refl
+    where
+      go : (x : Bool) → ltb i 16 ≡ x → (y : Bool) → ltb i 7696 ≡ y → getD v i 0 ≡ partWord head kinds rows i
+      go true p y q =
+          let l = ltb-true i 16 p in
+          rw p (before-rows i (omega arith) ∙ rw f (before-put t 16 kinds 7680 (omega (arith, first-long)) (omega arith) i l) ∙ head-put i)
+      go false p true q =
+          let a = ltb-false i 16 p in
+          let l = ltb-true i 7696 q in
+          let z : 16 + (i - 16) ≡ i = omega arith in
+          rw (p, q) (before-rows i l ∙ subst (λ (j : ℕ). getD u j 0 ≡ word kinds (i - 16)) z (rw f (within-put t 16 kinds 7680 (omega (arith, first-long)) (omega arith) (i - 16) (omega arith))))
+      go false p false q =
+          let a = ltb-false i 7696 q in
+          let z : 7696 + (i - 7696) ≡ i = omega arith in
+          rw (p, q) (subst (λ (j : ℕ). getD v j 0 ≡ word rows (i - 7696)) z (rw g (within-put u 7696 rows 1600 (omega (arith, second-long)) (omega arith) (i - 7696) (omega arith))))
+
+  pub parts-put : v ≡ tab (partWord head kinds rows) 9296
+  parts-put = ext-getD 0 v (tab (partWord head kinds rows) 9296) (third-long ∙ sym (length-tab (partWord head kinds rows) 9296)) (λ i l. let m : i < 9296 = omega (arith, third-long) in put-word i m ∙ sym (tab-at (partWord head kinds rows) 9296 i 0 m))
 
 -- the head of an image, by how many words its rows in force take
 pub head-told : (s : List ℕ) (used : ℕ) {v : List ℕ} → used ≡ length (inForce (catalogIn s)) → v ≡ kindCount s ∷ used / 4 ∷ indexWord (link (catalogIn s) (idAt s 12)) ∷ indexWord (link (catalogIn s) (idAt s 44)) ∷ [] → v ≡ headWords (catalogIn s)

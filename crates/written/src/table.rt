@@ -3,7 +3,7 @@ use crate::kinds::kinds_words;
 use crate::links::link_word;
 use crate::rows::row_links;
 use crate::rows::rows_words;
-use crate::words::word;
+use crate::words::put;
 use catalog::DIMENSIONLESS;
 use catalog::TIME;
 use catalog::keys_of;
@@ -12,6 +12,7 @@ use catalog::row_count;
 ghost use mathlib.Core.Path.{_≡_};
 ghost use mathlib.Core.List.{[], _∷_};
 ghost use Prim.Native.Nat.{_/_, _≤_, _<_};
+ghost use lib.ListN.{length};
 ghost use Rattle.laws.specs.Ranges.{tab};
 ghost use Rattle.rules.specs.Layout as layout;
 ghost use Rattle.rules.specs.Catalog.{catalogIn, idAt, link};
@@ -39,29 +40,17 @@ fn head_words(image: &[u8], keys: &[u32], used: usize) -> [u32; 4]
     ]
 }
 
-// Word i of the table, from its three parts.
-fn part_word(head: &[u32], kinds: &[u32], rows: &[u32], i: usize) -> u32
-    ensures { λ r. ⌜ r ≡ partWord (now (head .entry)) (now (kinds .entry)) (now (rows .entry)) i ⌝ }
-{
-    if i < 16 {
-        return word(head, i);
-    }
-    if i < 7696 {
-        return word(kinds, i - 16);
-    }
-    word(rows, i - 7696)
-}
-
-// The three parts as one.
+// The three parts as one, each put at its place.
 fn joined(head: &[u32], kinds: &[u32], rows: &[u32]) -> [u32; 9296]
+    requires { ⌜ length (now head) ≡ 4 ⌝ }
+    requires { ⌜ length (now kinds) ≡ 7680 ⌝ }
+    requires { ⌜ length (now rows) ≡ 1600 ⌝ }
     ensures { λ r. ⌜ r ≡ tab (partWord (now (head .entry)) (now (kinds .entry)) (now (rows .entry))) 9296 ⌝ }
 {
     let mut t = [0u32; 9296];
-    let mut i: usize = 0;
-    while i < 9296 {
-        t[i] = part_word(head, kinds, rows, i);
-        i += 1;
-    }
+    put(&mut t, 0, head, 4);
+    put(&mut t, 16, kinds, 7680);
+    put(&mut t, 7696, rows, 1600);
     t
 }
 

@@ -3,14 +3,6 @@ ghost use mathlib.Core.Path.{_≡_};
 ghost use Prim.Native.Nat.{_+_, _≤_};
 ghost use lib.ListN.{length};
 ghost use lib.Seq.{paste};
-ghost use Rattle.rules.specs.Table as T;
-
-// What is read past the end is 0.
-pub(crate) fn word(t: &[u32], i: usize) -> u32
-    ensures { λ r. ⌜ r ≡ T.word (now (t .entry)) i ⌝ }
-{
-    if i < t.len() { t[i] } else { 0 }
-}
 
 // Puts the first n words of w into t, from place `at` on.
 pub(crate) fn put(t: &mut [u32], at: usize, w: &[u32], n: usize)

@@ -1,5 +1,6 @@
-// The file of stored compilations, which is read section by section: an image and its answer.
+// A file that is read section by section: an image or what kindcheck reads, and one answer.
 use crate::compiled;
+use crate::lines;
 use bytes::u16_at;
 use bytes::u32_at;
 use stored::Tally;
@@ -7,12 +8,13 @@ use stored::UNREADABLE;
 use stored::after;
 use stored::front;
 ghost use Prim.Native.Nat.{_≤_};
+ghost use mathlib.Core.Path.{_≡_};
 ghost use Rattle.io.specs.Counts.{Counts};
+ghost use Rattle.replay.specs.Pieces as P;
 
-const GROUP: u32 = 2;
+pub(crate) const COMPILATIONS: u32 = 2;
 
-// One block more than an image can have.
-const LONGEST: usize = 62464;
+pub(crate) const LINES: u32 = 6;
 
 // No stored file is longer.
 const LIMIT: u64 = 16777216;
@@ -32,22 +34,42 @@ fn read_at(file: i32, at: u64, buffer: &mut [u8]) -> usize
     io::count(got, buffer)
 }
 
+// Whether the answer that s begins with is given to the input.
+fn agrees(s: &[u8], group: u32, input: &[u8]) -> bool
+    ensures { λ r. ⌜ r ≡ P.agreedOn group (now (s .entry)) (now (input .entry)) ⌝ }
+{
+    if group == LINES {
+        return lines::agrees(s, input);
+    }
+    compiled::agrees(s, input)
+}
+
+// The bytes of the answer that s begins with.
+fn size(s: &[u8], group: u32) -> usize
+    ensures { λ r. ⌜ r ≤ 101579258 ⌝ }
+{
+    if group == LINES {
+        return lines::size(s);
+    }
+    compiled::size(s)
+}
+
 // The section that s begins with. It has one request.
-fn section(s: &[u8], image: &mut [u8]) -> Compared
+fn section(s: &[u8], group: u32, input: &mut [u8]) -> Compared
     ensures { λ r. ⌜ r .size ≤ 4396546569 ⌝ }
 {
     let packed = u32_at(s, 4) as usize;
-    stored::unpack(front(after(s, 12), packed), image);
+    stored::unpack(front(after(s, 12), packed), input);
     let answer = after(s, 12 + packed);
-    let compiled = compiled::agrees(answer, front(image, u32_at(s, 0) as usize));
+    let same = agrees(answer, group, front(input, u32_at(s, 0) as usize));
     Compared {
-        agrees: compiled & (u16_at(s, 8) == 1),
-        size: 12 + packed + compiled::size(answer),
+        agrees: same & (u16_at(s, 8) == 1),
+        size: 12 + packed + size(answer, group),
     }
 }
 
 // How many of n sections agree; none if one isn't whole or they don't end with the file.
-fn agreed(file: i32, n: u32, buffer: &mut [u8], image: &mut [u8]) -> u32 {
+fn agreed(file: i32, group: u32, n: u32, buffer: &mut [u8], input: &mut [u8]) -> u32 {
     let mut at: u64 = 16;
     let mut i: u32 = 0;
     let mut count: u32 = 0;
@@ -56,7 +78,7 @@ fn agreed(file: i32, n: u32, buffer: &mut [u8], image: &mut [u8]) -> u32 {
             return 0;
         }
         let held = read_at(file, at, buffer);
-        let found = section(&buffer[..held], image);
+        let found = section(&buffer[..held], group, input);
         if held < found.size {
             return 0;
         }
@@ -73,28 +95,28 @@ fn agreed(file: i32, n: u32, buffer: &mut [u8], image: &mut [u8]) -> u32 {
     }
 }
 
-fn counted(file: i32, buffer: &mut [u8]) -> Tally {
+fn counted(file: i32, group: u32, buffer: &mut [u8]) -> Tally {
     let held = read_at(file, 0, buffer);
     let head = &buffer[..held];
-    if !stored::is_group(head, GROUP) {
+    if !stored::is_group(head, group) {
         return UNREADABLE;
     }
     let sections = u32_at(head, 8);
     let requests = u32_at(head, 12);
-    let mut image = [0u8; LONGEST];
+    let mut input = io::large_buffer();
     Tally {
-        agreed: agreed(file, sections, buffer, &mut image),
+        agreed: agreed(file, group, sections, buffer, &mut input),
         requests,
     }
 }
 
-pub(crate) fn replayed() -> Tally {
-    let file = os::open_read(b"compile.bin");
+pub(crate) fn replayed(name: &[u8], group: u32) -> Tally {
+    let file = os::open_read(name);
     if file < 0 {
         return UNREADABLE;
     }
     let mut buffer = io::large_buffer();
-    let tally = counted(file, &mut buffer);
+    let tally = counted(file, group, &mut buffer);
     libc::close(file);
     tally
 }
