@@ -4,12 +4,14 @@
 
    prints, for the compilation and for each file of tokens, the answer's words
    (the zeros at the end left off) and the twins that it lists; then what two of
-   the teaching catalog's kinds multiply to, and a power. */
+   the teaching catalog's kinds multiply to, powers, and what becomes of buffers
+   that are too short or longer than need be. */
 #include "kind_check.h"
 
 #include <stdio.h>
 
 static uint32_t table[KIND_TABLE_WORDS];
+static uint32_t other[KIND_TABLE_WORDS + 1];
 static uint16_t twins[KIND_TWINS];
 static uint32_t out[KIND_OUT_WORDS];
 static uint8_t image[121 * 512];
@@ -23,6 +25,15 @@ static size_t read_file(const char *name, uint8_t *to, size_t room)
         return 0;
     size_t n = fread(to, 1, room, file);
     fclose(file);
+    return n;
+}
+
+/* How many words of the other table hold something else than 54321. */
+static size_t written(void)
+{
+    size_t n = 0;
+    for (size_t i = 0; i < KIND_TABLE_WORDS + 1; i++)
+        n += other[i] != 54321;
     return n;
 }
 
@@ -79,5 +90,15 @@ int main(int argc, char **argv)
     out[0] = 77;
     bool told = kind_power(table, KIND_TABLE_WORDS, twins, KIND_TWINS, 6, 1, 2, out, 31);
     printf("31 words: %s, word 0 is %u\n", told ? "told" : "not told", (unsigned)out[0]);
+
+    /* a table one word short is 5 and stays as it was; a longer one keeps its last word */
+    for (size_t i = 0; i < KIND_TABLE_WORDS + 1; i++)
+        other[i] = 54321;
+    kind_compile(image, image_len, other, KIND_TABLE_WORDS - 1, out, KIND_OUT_WORDS);
+    print_answer("a table of 9295 words");
+    printf("words written: %zu\n", written());
+    kind_compile(image, image_len, other, KIND_TABLE_WORDS + 1, out, KIND_OUT_WORDS);
+    print_answer("a table of 9297 words");
+    printf("words written: %zu, the last is %u\n", written(), (unsigned)other[KIND_TABLE_WORDS]);
     return 0;
 }
