@@ -4,7 +4,7 @@ use mathlib.Core.Path.{_≡_, refl}
 use mathlib.Core.Option.{Option, some, none}
 use Rattle.laws.specs.Options.{orElse}
 use Rattle.laws.proofs.First.{first-none, first-next, first-here, first-end}
-use Rattle.laws.proofs.FirstFrom.{spans, seeks}
+use Rattle.laws.proofs.FirstFrom.{spans, none-there, seeks}
 use Rattle.image.specs.Shown.{placed}
 use Rattle.image.specs.declared.search.Found.{Found}
 use Rattle.image.specs.declared.search.Found.the-variants.{At, Nothing}
@@ -27,4 +27,4 @@ none-nothing e = rw e
 pub placed-on : {v : Found} {a : Option ℕ} (b : Option ℕ) → a ≡ none → v ≡ placed b → v ≡ placed (orElse a b)
 placed-on b e f = rw e f
 
-pub ruleset finds = (spans, first-none, first-next, first-here, first-end, seeks, at-some, nothing-none, some-at, none-nothing, placed-on)
+pub ruleset finds = (spans, none-there, first-none, first-next, first-here, first-end, seeks, at-some, nothing-none, some-at, none-nothing, placed-on)

@@ -1,6 +1,5 @@
 // Refusal 2: the lowest block whose place or sum is wrong.
 use crate::search::Found;
-use bytes::byte_at;
 use bytes::u16_at;
 use bytes::u32_at;
 ghost use mathlib.Core.Path.{_≡_};
@@ -11,17 +10,19 @@ ghost use Rattle.rules.specs.Image.{sumWrong};
 ghost use Rattle.laws.specs.Ranges.{first};
 ghost use Rattle.image.specs.Shown.{placed, weighed};
 
-// What byte i of a block adds to the block's sum.
+// What byte i of a block adds to the block's sum. The block lies within the image, so no place needs a test.
 fn weight(image: &[u8], block: usize, i: usize) -> u32
     requires { ⌜ (block < 1000) × (i < 508) ⌝ }
+    requires { ⌜ 512 * block + 508 ≤ length (now image) ⌝ }
     ensures { λ r. ⌜ r ≡ weighed (now (image .entry)) block i ⌝ }
     ensures { λ r. ⌜ r ≤ 129540 ⌝ }
 {
-    (i as u32 + 1) * (byte_at(image, block * 512 + i) as u32)
+    (i as u32 + 1) * (image[block * 512 + i] as u32)
 }
 
 fn block_sum(image: &[u8], block: usize) -> u32
     requires { ⌜ block < 1000 ⌝ }
+    requires { ⌜ 512 * block + 508 ≤ length (now image) ⌝ }
     ensures { λ r. ⌜ r ≡ blockSum (now (image .entry)) block ⌝ }
 {
     let mut sum: u32 = 0;
@@ -35,6 +36,7 @@ fn block_sum(image: &[u8], block: usize) -> u32
 
 fn sum_wrong(image: &[u8], block: usize) -> bool
     requires { ⌜ block < 1000 ⌝ }
+    requires { ⌜ 512 * block + 508 ≤ length (now image) ⌝ }
     ensures { λ r. ⌜ r ≡ sumWrong (now (image .entry)) block ⌝ }
 {
     (u16_at(image, block * 512) as usize != block)
@@ -44,6 +46,7 @@ fn sum_wrong(image: &[u8], block: usize) -> bool
 // The lowest wrong block of n.
 pub(crate) fn wrong_among(image: &[u8], n: usize) -> Found
     requires { ⌜ n ≤ 1000 ⌝ }
+    requires { ⌜ 512 * n ≤ length (now image) ⌝ }
     ensures { λ r. ⌜ r ≡ placed (first (sumWrong (now (image .entry))) n) ⌝ }
 {
     let mut b: usize = 0;

@@ -7,6 +7,8 @@ use bytes::u16_at;
 ghost use mathlib.Core.Path.{_≡_};
 ghost use Prim.Native.Nat.{_+_, _*_, _-_, _<_, _≤_, min};
 ghost use Rattle.rules.specs.Layout.{headerWrong, idWrong, idsWrong, exponentWrong, kindWrong, rowWrong, blockWrong, byteWrong};
+ghost use lib.ListN.{length};
+ghost use Rattle.laws.specs.Options.{isSome};
 ghost use Rattle.laws.specs.Ranges.{firstFrom};
 ghost use Rattle.image.specs.Shown.{placed, denominatorWrong, denominatorAt, marksWrong, countsWrong, headAt, recordsAt};
 
@@ -19,10 +21,41 @@ fn id_byte_wrong(s: &[u8], p: usize, i: usize) -> bool
     (x != 0) & ((x < 33) | (126 < x) | ((0 < i) & !filled_before(s, p + i)))
 }
 
+// The same of an id that lies within the image.
+fn wrong_within(s: &[u8], p: usize, i: usize) -> bool
+    requires { ⌜ (0 < p) × (p + 32 ≤ length (now s)) ⌝ }
+    requires { ⌜ i < 32 ⌝ }
+    ensures { λ r. ⌜ r ≡ idWrong (now (s .entry)) p (p + i) ⌝ }
+{
+    let x = s[p + i];
+    let before = s[p + i - 1];
+    (x != 0) & ((x < 33) | (126 < x) | ((0 < i) & (before == 0)))
+}
+
+// Whether a byte of an id that lies within the image is wrong. No byte ends the loop, so that many are looked at at once.
+fn any_wrong(s: &[u8], p: usize) -> bool
+    requires { ⌜ (0 < p) × (p + 32 ≤ length (now s)) ⌝ }
+    ensures { λ r. ⌜ r ≡ isSome (firstFrom (idWrong (now (s .entry)) p) p 32) ⌝ }
+{
+    let mut any = false;
+    let mut i: usize = 0;
+    while i < 32 {
+        any = any | wrong_within(s, p, i);
+        i += 1;
+    }
+    any
+}
+
+// The first wrong byte of the id at p. Most ids have none, which is seen first.
 fn id_fault(s: &[u8], p: usize) -> Found
     requires { ⌜ p < 500000 ⌝ }
     ensures { λ r. ⌜ r ≡ placed (firstFrom (idWrong (now (s .entry)) p) p 32) ⌝ }
 {
+    if (0 < p) & (p + 32 <= s.len()) {
+        if !any_wrong(s, p) {
+            return Found::Nothing;
+        }
+    }
     let mut i: usize = 0;
     while i < 32 {
         if id_byte_wrong(s, p, i) {

@@ -1,19 +1,29 @@
--- The laws of `firstFrom`: a loop over the n numbers from p on (`spans`), a range taken apart into ranges that follow one another, and what code
--- that looks through them one by one answers (`seeks`). Assumes nothing.
+-- The laws of `firstFrom`: a loop over the n numbers from p on (`spans`), one that only gathers whether any passes (`anys`), a range taken apart into
+-- ranges that follow one another, and what code that looks through them one by one answers (`seeks`). Assumes nothing.
 use Prim.Native.Nat.{ℕ, zero, suc, _+_, _<_, _≤_}
-use mathlib.Core.Path.{_≡_, refl, sym, subst}
-use mathlib.Core.Bool.{Bool, true, false}
+use mathlib.Core.Path.{_≡_, refl, sym, _∙_, subst}
+use mathlib.Core.Bool.{Bool, true, false, not, cond, _||_}
 use mathlib.Core.Logic.{⊎-elim}
 use mathlib.Core.Option.{Option, some, none}
 use native.Mathlib.Nat.{le-of-suc-le-suc, not-suc-le-zero, eq-or-lt-of-le, le-antisymm, add-suc, add-assoc, zero-add, add-zero}
 use native.Mathlib.Numerals.{add-one}
 use native.Mathlib.Omega.{arith}
-use Rattle.laws.specs.Options.{orElse}
+use Rattle.laws.specs.Options.{isSome, orElse}
 use Rattle.laws.specs.Ranges.{first, firstFrom}
 
 pub or-assoc : (a b c : Option ℕ) → orElse (orElse a b) c ≡ orElse a (orElse b c)
 or-assoc (some i) b c = refl
 or-assoc none b c = refl
+
+some-or : (o : Option ℕ) (b : Bool) (i : ℕ) → (isSome o || b) ≡ isSome (orElse o (cond b (some i) none))
+some-or (some j) b i = refl
+some-or none true i = refl
+some-or none false i = refl
+
+-- where nothing was gathered there is none
+pub none-there : {v : Bool} (o : Option ℕ) → v ≡ isSome o → not v ≡ true → o ≡ none
+none-there (some i) e f = cc
+none-there none e f = refl
 
 module _ (test : ℕ → Bool) (p : ℕ) where
   -- ---- a loop: nothing is found in the first i
@@ -36,6 +46,18 @@ module _ (test : ℕ → Bool) (p : ℕ) where
 
   pub from-end : (i n : ℕ) → firstFrom test p i ≡ none → i ≤ n → n ≤ i → firstFrom test p n ≡ none
   from-end i n e l m = rw (le-antisymm m l) e
+
+  -- ---- a loop with no branch: v says whether there is one in the first i
+  pub any-none : false ≡ isSome (firstFrom test p 0)
+  unfolding firstFrom
+  any-none = refl
+
+  pub any-next : (i : ℕ) {v b : Bool} → v ≡ isSome (firstFrom test p i) → b ≡ test (p + i) → (v || b) ≡ isSome (firstFrom test p (i + 1))
+  unfolding firstFrom
+  any-next i e q = rw (add-one, firstFrom, e, q) (some-or (firstFrom test p i) (test (p + i)) (p + i))
+
+  pub any-end : (i n : ℕ) {v : Bool} → v ≡ isSome (firstFrom test p i) → i ≤ n → n ≤ i → v ≡ isSome (firstFrom test p n)
+  any-end i n e l m = rw (le-antisymm m l) e
 
   -- ---- tests that agree on the range find the same
   pub from-same : (other : ℕ → Bool) (n : ℕ) → ((k : ℕ) → k < n → test (p + k) ≡ other (p + k)) → firstFrom test p n ≡ firstFrom other p n
@@ -64,6 +86,8 @@ from-start test zero = refl
 from-start test (suc n) = rw (firstFrom, first, from-start test n, zero-add n)
 
 pub ruleset spans = (from-none, from-next, from-here, from-end)
+
+pub ruleset anys = (any-none, any-next, any-end)
 
 -- ---- two ranges, one after the other
 pub seek-here : {a : Option ℕ} (b : Option ℕ) {i : ℕ} → a ≡ some i → orElse a b ≡ some i

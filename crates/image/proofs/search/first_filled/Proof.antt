@@ -1,4 +1,4 @@
--- `image::search::first_filled` meets its contract: a scan.
+-- `image::search::first_filled` meets its contract: none at a glance, or a scan.
 -- Assumes nothing.
 use borrow.Author.Needs.{needs}
 use Prim.Native.Nat.{_-_, _≤_}
@@ -18,4 +18,4 @@ abbrev μ-loop : tie.MeasureT-loop
 
 pub first-filled-spec : {M : Type 1} → statement M
 first-filled-spec =
-    tie.close (tie.spec Inv-loop μ-loop (λ c. search (finds, needs)) (search needs) (search needs) (search needs) (λ c. search (finds, needs)) (search needs) (search needs) (λ c. search (finds, needs)) (λ c. search (finds, needs)))
+    tie.close (tie.spec Inv-loop μ-loop (search needs) (λ c κs. search needs) (λ c. search (finds, needs)) (λ c. search (finds, needs)) (search needs) (search needs) (search needs) (λ c. search (finds, needs)) (search needs) (search needs) (λ c. search (finds, needs)) (λ c. search (finds, needs)))
