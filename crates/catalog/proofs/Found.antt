@@ -1,6 +1,6 @@
--- The first kind of an id, as an index. Assumes nothing.
+-- A kind by its record, and what a record's fields are read as. Assumes nothing.
 use Prim.Native.Nat.{ℕ, _+_, _*_, _<_}
-use mathlib.Core.Path.{_≡_, refl, sym, _∙_, subst}
+use mathlib.Core.Path.{_≡_, refl, sym}
 use mathlib.Core.Bool.{Bool, true, false, cond}
 use mathlib.Core.List.{List, [], _∷_}
 use mathlib.Core.Option.{some, none}
@@ -9,7 +9,7 @@ use borrow.Author.Tests.{lt-ltb}
 use lib.Dec.{eqb}
 use lib.ListN.{List·getD-eq-default}
 use Rattle.laws.specs.Options.{isSome, found}
-use Rattle.laws.specs.Ranges.{first, tab, below}
+use Rattle.laws.specs.Ranges.{tab, below}
 use Rattle.dimension.specs.Fraction as F
 use Rattle.dimension.specs.Dimension as D
 use Rattle.dimension.specs.declared.rational.Rational.{Rational}
@@ -20,10 +20,7 @@ use Rattle.dimension.specs.declared.grade.ProductOp.the-variants.{Mul, Div, Dot
 use Rattle.rules.specs.Kinds.{opOf}
 use Rattle.rules.specs.Bytes.{byte}
 use Rattle.rules.specs.Layout.{kindCount}
-use Rattle.rules.specs.Catalog.{Catalog, Id, orZero, blank, same, idAt, exponentAt, dimsAt, kindFrom, kindAt, catalogIn, find, link}
-use Rattle.error.specs.Shown.{linked}
-use Rattle.error.specs.declared.answer.Link.{Link}
-use Rattle.error.specs.declared.answer.Link.the-variants.{To, Nowhere}
+use Rattle.rules.specs.Catalog.{orZero, same, idAt, exponentAt, dimsAt, kindFrom, kindAt, catalogIn}
 
 -- a kind below the count is what its record declares
 pub kind-in : (s : List ℕ) (k : ℕ) → k < kindCount s → catalogIn s .kind k ≡ kindFrom s (kindAt k)
@@ -33,26 +30,6 @@ kind-in s k h = rw (lt-ltb k (kindCount s) h)
 pub id-in : (s : List ℕ) (k p : ℕ) {q : ℕ} {b : Bool} → q ≡ kindAt k → b ≡ same (idAt s q) (idAt s p) → k < kindCount s → b ≡ same (catalogIn s .kind k .id) (idAt s p)
 unfolding kindFrom
 id-in s k p d e h = rw (kind-in s k h, ← d) e
-
-module _ (s : List ℕ) (id : Id) {n : ℕ} where
-  pub find-here : (k : ℕ) → n ≡ kindCount s → first (λ j. same (catalogIn s .kind j .id) id) n ≡ some k → To k ≡ linked (find (catalogIn s) id)
-  unfolding find catalogIn
-  find-here k c e = rw (subst (λ (m : ℕ). first (λ j. same (catalogIn s .kind j .id) id) m ≡ some k) c e)
-
-  pub find-end : n ≡ kindCount s → first (λ j. same (catalogIn s .kind j .id) id) n ≡ none → Nowhere ≡ linked (find (catalogIn s) id)
-  unfolding find catalogIn
-  find-end c e = rw (subst (λ (m : ℕ). first (λ j. same (catalogIn s .kind j .id) id) m ≡ none) c e)
-
-module _ (C : Catalog) (id : Id) {v : Link} where
-  pub link-blank : {b : Bool} → b ≡ true → b ≡ blank id → v ≡ Nowhere → v ≡ linked (link C id)
-  unfolding link
-  link-blank p e h = rw (sym e ∙ p) h
-
-  pub link-found : {b : Bool} → b ≡ false → b ≡ blank id → v ≡ linked (find C id) → v ≡ linked (link C id)
-  unfolding link
-  link-found p e h = rw (sym e ∙ p) h
-
-pub ruleset links = (link-blank, link-found)
 
 pub some-if : {A : Type 0} (b : Bool) (a : A) → b ≡ isSome (cond b (some a) none)
 some-if true a = refl

@@ -1,16 +1,18 @@
 -- Ids found with the help of their keys: equal ids have equal keys, so with an image's own keys every id is found as without. Assumes nothing.
 use Prim.Native.Nat.{ℕ, zero, suc, _+_, _*_, _<_, _≤_}
 use mathlib.Core.Path.{_≡_, refl, sym, _∙_, ap, ap₂, subst}
-use mathlib.Core.Bool.{Bool, true, false, cond, not, _&&_, _||_}
+use mathlib.Core.Bool.{Bool, true, false, cond, _&&_, _||_}
 use mathlib.Core.List.{List}
 use mathlib.Core.Option.{Option, some, none}
 use native.Mathlib.Omega.{arith}
 use borrow.Author.Tests.{lt-ltb, le-ltb, le-leb, lt-leb, ltb-true, ltb-false, leb-true, leb-false, eqb-true, eq-eqb}
 use lib.Dec.{eqb, ltb, leb}
 use lib.ListN.{length, getD, replicate, List·getD-append}
-use Rattle.laws.specs.Options.{found}
-use Rattle.laws.specs.Ranges.{first, sum, tab, overlay}
+use Rattle.laws.specs.Options.{orElse}
+use Rattle.laws.specs.Ranges.{first, firstFrom, sum, tab, overlay}
+use Rattle.laws.proofs.All.{all-at}
 use Rattle.laws.proofs.First.{first-misses, first-same}
+use Rattle.laws.proofs.FirstFrom.{from-start, from-split}
 use Rattle.laws.proofs.Overlay.{overlay-length}
 use Rattle.laws.proofs.Tab.{length-tab, tab-at}
 use Rattle.rules.specs.Bytes.{byte, le2}
@@ -19,7 +21,7 @@ use Rattle.rules.specs.Catalog.{blank, same, idAt, kindAt, kindFrom, catalogIn,
 use Rattle.error.specs.Shown.{linked}
 use Rattle.error.specs.declared.answer.Link.{Link}
 use Rattle.error.specs.declared.answer.Link.the-variants.{To, Nowhere}
-use Rattle.catalog.specs.Shown.{bytesDiffer}
+use Rattle.catalog.specs.Shown.{bytesAlike}
 use Rattle.catalog.specs.Keys.{keyPart, keyAt, kindKey, keyCount, keysIn, keyFits, namedBy, findBy, linkBy}
 use Rattle.catalog.proofs.Alike.{same-ids}
 use Rattle.catalog.proofs.Found.{kind-in}
@@ -58,6 +60,23 @@ module _ (s keys : List ℕ) (p key k : ℕ) {b v : Bool} (e : b ≡ keyFits key
 
 pub ruleset named = (named-fits, named-not)
 
+-- ---- kinds passed over: none of the first k has the key
+nowhere : (test : ℕ → Bool) (n : ℕ) → ((i : ℕ) → i < n → test i ≡ false) → first test n ≡ none
+unfolding first
+nowhere test zero h = refl
+nowhere test (suc n) h = rw (first, nowhere test n (λ i l. h i (omega arith)), h n (omega arith))
+
+module _ (keys : List ℕ) (key : ℕ) where
+  pub over-next : (k : ℕ) → first (keyFits keys key) k ≡ none → firstFrom (keyFits keys key) k 16 ≡ none → first (keyFits keys key) (k + 16) ≡ none
+  over-next k e f =
+      sym (from-start (keyFits keys key) (k + 16)) ∙ from-split (keyFits keys key) 0 k 16
+      ∙ ap₂ orElse (from-start (keyFits keys key) k ∙ e) (let z : 0 + k ≡ k = omega arith in rw z f)
+
+  -- nor the key and the id
+  pub over-named : (s : List ℕ) (p k : ℕ) → first (keyFits keys key) k ≡ none → first (namedBy s keys p key) k ≡ none
+  unfolding namedBy
+  over-named s p k e = nowhere (namedBy s keys p key) k (λ i h. rw (first-misses (keyFits keys key) k i e h))
+
 module _ (s keys : List ℕ) (p : ℕ) {key n : ℕ} (a : key ≡ keyAt s p) (c : n ≡ kindCount s) where
   pub by-here : (k : ℕ) → first (namedBy s keys p key) n ≡ some k → To k ≡ linked (findBy s keys p)
   unfolding findBy
@@ -84,20 +103,10 @@ unfolding sum
 sum-same f g zero h = refl
 sum-same f g (suc n) h = ap₂ (λ (x y : ℕ). x + y) (sum-same f g n (λ k l. h k (omega arith))) (h n (omega arith))
 
-found-none : (o : Option ℕ) → found o (λ i. false) true ≡ true → o ≡ none
-found-none (some i) e = cc
-found-none none e = refl
-
-not-false : (b : Bool) → not b ≡ false → b ≡ true
-not-false true e = refl
-not-false false e = sym e
-
 module _ (s : List ℕ) (p q : ℕ) (e : same (idAt s p) (idAt s q) ≡ true) where
   bytes-same : (i : ℕ) → i < 32 → byte s (p + i) ≡ byte s (q + i)
-  unfolding bytesDiffer
-  bytes-same i h =
-      let n : first (bytesDiffer s p q) 32 ≡ none = found-none _ (sym (same-ids s p q) ∙ e) in
-      eqb-true (byte s (p + i)) (byte s (q + i)) (not-false _ (first-misses (bytesDiffer s p q) 32 i n h))
+  unfolding bytesAlike
+  bytes-same i h = eqb-true (byte s (p + i)) (byte s (q + i)) (all-at (bytesAlike s p q) 32 i (sym (same-ids s p q) ∙ e) h)
 
   parts-same : (i : ℕ) → i < 16 → keyPart s p i ≡ keyPart s q i
   unfolding keyPart le2

@@ -1,4 +1,4 @@
--- Ids compared byte by byte, the first kind of an id, and ids told apart by keys.
+-- Ids compared byte by byte, records and their fields, and ids told apart by keys.
 mod Alike
 pub mod Found
 pub mod Keyed

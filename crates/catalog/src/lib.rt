@@ -11,8 +11,6 @@ pub use fields::is_commutative;
 pub use fields::is_given;
 pub use fields::op_at;
 pub use ids::blank_at;
-pub use ids::find_at;
-pub use ids::link_at;
 pub use ids::same_at;
 pub use keys::Keys;
 pub use keys::find_by;

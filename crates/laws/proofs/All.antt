@@ -1,8 +1,8 @@
--- The laws of `all`: four prove a loop that tests each number and stops at the first that fails; `all-at` and `all-of` say what it means.
--- Assumes nothing.
+-- The laws of `all`: four prove a loop that tests each number and stops at the first that fails (`alls`), three one that gathers whether each passes
+-- and ends at n alone (`everys`); `all-at` and `all-of` say what it means. Assumes nothing.
 use Prim.Native.Nat.{ℕ, zero, suc, _+_, _<_, _≤_}
 use mathlib.Core.Path.{_≡_, refl, sym, _∙_, subst}
-use mathlib.Core.Bool.{Bool, true, false, and-false}
+use mathlib.Core.Bool.{Bool, true, false, _&&_, and-false}
 use mathlib.Core.Logic.{⊎-elim}
 use native.Mathlib.Nat.{le-of-suc-le-suc, not-suc-le-zero, eq-or-lt-of-le, le-antisymm}
 use native.Mathlib.Numerals.{add-one}
@@ -32,7 +32,19 @@ module _ (test : ℕ → Bool) where
   pub all-end : (i n : ℕ) → all test i ≡ true → i ≤ n → n ≤ i → true ≡ all test n
   all-end i n p l m = rw (le-antisymm m l, p)
 
-  -- each number below n passes
+  -- ---- a loop with no branch: v says whether each below i passes
+  pub every-none : true ≡ all test 0
+  unfolding all
+  every-none = refl
+
+  pub every-next : (i : ℕ) {v b : Bool} → v ≡ all test i → b ≡ test i → (v && b) ≡ all test (i + 1)
+  unfolding all
+  every-next i e q = rw (add-one, all, e, q)
+
+  pub every-end : (i n : ℕ) {v : Bool} → v ≡ all test i → i ≤ n → n ≤ i → v ≡ all test n
+  every-end i n e l m = rw (le-antisymm m l) e
+
+  -- ---- each number below n passes
   pub all-at : (n i : ℕ) → all test n ≡ true → i < n → test i ≡ true
   unfolding all
   all-at zero i e h = absurd (not-suc-le-zero h)
@@ -49,3 +61,5 @@ module _ (test : ℕ → Bool) where
   all-of (suc n) h = and-both (all-of n (λ i l. h i (omega arith))) (h n (omega arith))
 
 pub ruleset alls = (all-none, all-next, all-here, all-end)
+
+pub ruleset everys = (every-none, every-next, every-end)

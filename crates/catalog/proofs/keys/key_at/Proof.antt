@@ -1,4 +1,4 @@
--- `catalog::keys::key_at` meets its contract: a loop that adds up.
+-- `catalog::keys::key_at` meets its contract: within the image at a glance, else a loop that adds up.
 -- Assumes nothing.
 use borrow.Author.Needs.{needs}
 use Prim.Native.Nat.{_-_, _≤_, _*_}
@@ -10,14 +10,14 @@ use Rattle.catalog.proofs.keys.key_at.Statement.{statement}
 use Rattle.catalog.proofs.keys.key_at.Tie as tie
 
 abbrev Inv-loop : tie.InvT-loop
-Inv-loop image p key₀ i₀ key i = (i ≤ 16) × (key ≤ 1048560 * i) × (key ≡ sum (keyPart image p) i)
+Inv-loop image p at key₀ i₀ key i = (i ≤ 16) × (key ≤ 1048560 * i) × (key ≡ sum (keyPart image p) i)
 
 abbrev μ-loop : tie.MeasureT-loop
-μ-loop image p key₀ i₀ key i = 16 - i
+μ-loop image p at key₀ i₀ key i = 16 - i
 
-returns : tie.Need-returns Inv-loop μ-loop
+returns-2 : tie.Need-returns-2 Inv-loop μ-loop
 unfolding keyAt
-returns c = search (sums, needs)
+returns-2 c = search (sums, needs)
 
 pub key-at-spec : {M : Type 1} → statement M
-key-at-spec = tie.close (tie.spec Inv-loop μ-loop (λ c. search (sums, needs)) (search needs) (search needs) (search needs) (search needs) (λ c. search (sums, needs)) returns)
+key-at-spec = tie.close (tie.spec Inv-loop μ-loop (search needs) (λ c κs. search needs) (λ c. c .key-within .ensures) (λ c. search (sums, needs)) (search needs) (search needs) (search needs) (search needs) (λ c. search (sums, needs)) returns-2)
