@@ -5,7 +5,6 @@ pub mod Derives
 pub mod Resolves
 -- on the way there
 mod GradeOver
-mod Carried
 mod Seens
 mod Room
 mod Either

@@ -1,17 +1,18 @@
 -- What the code's answers show of the rules'.
-use Prim.Native.Nat.{ℕ}
-use mathlib.Core.Bool.{cond}
+use Prim.Native.Nat.{ℕ, _*_}
+use mathlib.Core.Bool.{Bool, cond, not}
 use mathlib.Core.List.{List, [], _∷_}
 use mathlib.Core.Option.{Option, some, none}
-use lib.Dec.{ltb}
+use lib.Dec.{eqb, ltb}
 use lib.ListN.{length}
 use Rattle.laws.specs.Options.{found}
 use Rattle.laws.specs.Out.{given, refused}
-use Rattle.laws.specs.Ranges.{overlay}
+use Rattle.laws.specs.Ranges.{first, overlay}
 use Rattle.dimension.specs.Dimension as D
 use Rattle.dimension.specs.declared.dimensions.Dimensions.{Dimensions}
 use Rattle.rules.specs.Kinds.{Kinds, Graded}
 use Rattle.rules.specs.Refusal.{Answer}
+use Rattle.rules.specs.Table.{word}
 use Rattle.rules.specs.Arithmetic as rule
 use Rattle.error.specs.Shown.{errorOf}
 use Rattle.error.specs.declared.cause.Error.{Error}
@@ -50,6 +51,14 @@ lastOf (k ∷ m ∷ l) = lastOf (m ∷ l)
 
 abbrev pub seen : List ℕ → Seen
 seen l = record { count = length l; last = lastOf l }
+
+-- the numerator of base b, in the words of dimensions, is not zero
+unfoldable pub isThere : List ℕ → ℕ → Bool
+isThere w b = not (eqb (word w (2 * b)) 0)
+
+-- the place of the first of twelve numerators that is not zero, or 0
+unfoldable pub pivotOf : List ℕ → ℕ
+pivotOf w = found (first (isThere w) 12) (λ b. 2 * b) 0
 
 -- a lent list with these in front
 abbrev pub listed : List ℕ → List ℕ → List ℕ

@@ -1,31 +1,14 @@
-// The kinds that carry dimensions at a grade, and those that fit a product: no point among them.
+// The kinds that fit dimensions at a grade, counted and listed.
 use dimension::Dimensions;
-use table::grade_of;
-use table::is_point;
-use table::is_resolved;
 use table::kind_count;
-use table::same_exponents;
 use table::words_of;
 ghost use mathlib.Core.Path.{_≡_};
-ghost use Prim.Native.Nat.{_≤_};
+ghost use Prim.Native.Nat.{_≤_, _<_};
 ghost use lib.ListN.{length};
 ghost use Rattle.laws.specs.Ranges.{picked};
 ghost use Rattle.rules.specs.Kinds as K;
 ghost use Rattle.rules.specs.Table.{kindsOf, dimsFrom};
-ghost use Rattle.derive.specs.Shown.{at, seen, listed, roomListed};
-
-// Whether kind k has this grade and the dimensions whose words are w. The grade comes first, the words end at the first that differs.
-fn carries_words(t: &[u32], w: &[u32], g: u32, k: u16) -> bool
-    ensures { λ r. ⌜ r ≡ K.carries (kindsOf (now (t .entry))) (at (dimsFrom (now (w .entry)) 0) g) k ⌝ }
-{
-    if grade_of(t, k) != g {
-        return false;
-    }
-    if !is_resolved(t, k) {
-        return false;
-    }
-    same_exponents(t, k, w)
-}
+ghost use Rattle.derive.specs.Shown.{at, seen, listed, roomListed, isThere, pivotOf};
 
 // Whether kind k has these dimensions and this grade.
 pub fn carries(t: &[u32], d: Dimensions, g: u32, k: u16) -> bool
@@ -33,16 +16,29 @@ pub fn carries(t: &[u32], d: Dimensions, g: u32, k: u16) -> bool
 {
     let exponents = words_of(d);
     let w = exponents.words;
-    carries_words(t, &w, g, k)
+    table::carries(t, k, &w, g)
 }
 
-fn fits(t: &[u32], w: &[u32], g: u32, k: u16) -> bool
-    ensures { λ r. ⌜ r ≡ K.fits (kindsOf (now (t .entry))) (at (dimsFrom (now (w .entry)) 0) g) k ⌝ }
+// Whether the numerator of base b is not zero.
+fn is_there(w: &[u32], b: usize) -> bool
+    requires { ⌜ b < 12 ⌝ }
+    ensures { λ r. ⌜ r ≡ isThere (now (w .entry)) b ⌝ }
 {
-    if is_point(t, k) {
-        return false;
+    table::word(w, 2 * b) != 0
+}
+
+// The place of the first numerator that is not zero, which tells most kinds apart; 0 where all are.
+fn pivot(w: &[u32]) -> usize
+    ensures { λ r. ⌜ r ≡ pivotOf (now (w .entry)) ⌝ }
+{
+    let mut b: usize = 0;
+    while b < 12 {
+        if is_there(w, b) {
+            return 2 * b;
+        }
+        b += 1;
     }
-    carries_words(t, w, g, k)
+    0
 }
 
 // How many kinds fit, and the last of them.
@@ -54,11 +50,12 @@ pub(crate) struct Seen {
 fn tally(t: &[u32], w: &[u32], g: u32, n: u16) -> Seen
     ensures { λ r. ⌜ r ≡ seen (picked (K.fits (kindsOf (now (t .entry))) (at (dimsFrom (now (w .entry)) 0) g)) n) ⌝ }
 {
+    let first = pivot(w);
     let mut count: u16 = 0;
     let mut last: u16 = 0;
     let mut k: u16 = 0;
     while k < n {
-        if fits(t, w, g, k) {
+        if table::fits(t, k, w, g, first) {
             count += 1;
             last = k;
         }
@@ -80,10 +77,11 @@ fn list(t: &[u32], w: &[u32], g: u32, n: u16, twins: &mut [u16])
     requires { ⌜ n ≤ length (now twins) ⌝ }
     ensures { λ _. ⌜ now (twins .exit) ≡ listed (picked (K.fits (kindsOf (now (t .entry))) (at (dimsFrom (now (w .entry)) 0) g)) n) (now (twins .entry)) ⌝ }
 {
+    let first = pivot(w);
     let mut count: usize = 0;
     let mut k: u16 = 0;
     while k < n {
-        if fits(t, w, g, k) {
+        if table::fits(t, k, w, g, first) {
             twins[count] = k;
             count += 1;
         }

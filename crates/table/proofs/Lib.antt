@@ -2,16 +2,17 @@
 --     Links        of code that answers with the index of a kind or none: `links`
 --     Fields       of the words of a kind, read under the count: `fields`, `dimsKnown`
 --     Exponents    of exponents in words, read, compared and written: `sames`
---     Fits         of a scan for the kinds that fit: `fitted`
+--     Carried      of what a kind carries and whether it fits: `carried`
 --     Tells        what is known of words that are a table: `tells`
 --     Own          a table's own rows are rows over it
 pub mod Links
 pub mod Fields
 pub mod Exponents
-pub mod Fits
+pub mod Carried
 pub mod Tells
 pub mod Own
 -- on the way there
 mod Ands
 mod Scanned
 mod Tables
+mod Worded

@@ -1,10 +1,16 @@
--- What private functions of the crate compute.
+-- Dimensions at a grade, and what private functions of the crate compute.
 use Prim.Native.Nat.{ℕ, _+_, _*_}
 use mathlib.Core.Bool.{Bool, _&&_}
 use mathlib.Core.List.{List}
-use lib.Dec.{eqb}
-use Rattle.laws.specs.Ranges.{below}
+use lib.Dec.{eqb, leb}
+use Rattle.laws.specs.Ranges.{below, all}
+use Rattle.dimension.specs.declared.dimensions.Dimensions.{Dimensions}
+use Rattle.rules.specs.Kinds.{Graded}
 use Rattle.rules.specs.Table.{word, kindsIn, kindPlace}
+
+-- dimensions at a grade
+abbrev pub graded : Dimensions → ℕ → Graded
+graded d g = record { dims = d; grade = g }
 
 -- word f of kind k, or d past the count
 unfoldable pub field : List ℕ → ℕ → ℕ → ℕ → ℕ
@@ -13,3 +19,11 @@ field t k f d = below (kindsIn t) d (λ k. word t (kindPlace k + f)) k
 -- row i of lent rows is for left l, the operation whose word is o, and right r
 unfoldable pub rowFor : List ℕ → ℕ → ℕ → ℕ → ℕ → Bool
 rowFor s l o r i = eqb (word s (4 * i)) l && eqb (word s (4 * i + 1)) o && eqb (word s (4 * i + 2)) r
+
+-- ---- the words of a kind that begin at p, compared with those of dimensions
+unfoldable pub sameWord : List ℕ → ℕ → List ℕ → ℕ → Bool
+sameWord t p w i = eqb (word t (p + i)) (word w i)
+
+-- the same exponents, which are given, at this grade, and no difference
+unfoldable pub fitsWords : List ℕ → ℕ → List ℕ → ℕ → Bool
+fitsWords t p w g = all (sameWord t p w) 24 && ((eqb (word t (p + 24)) 1 && eqb (word t (p + 25)) g) && leb 65535 (word t (p + 27)))

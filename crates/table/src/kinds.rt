@@ -124,7 +124,7 @@ fn same_from(t: &[u32], p: usize, w: &[u32]) -> bool
 }
 
 // Whether the words of kind k stand for the dimensions that w's stand for. They are cut out first: of a part of 24 words no place needs a test.
-pub fn same_exponents(t: &[u32], k: u16, w: &[u32]) -> bool
+pub(crate) fn same_exponents(t: &[u32], k: u16, w: &[u32]) -> bool
     ensures { λ r. ⌜ r ≡ D.equal (T.dimsFrom (now (t .entry)) (T.kindPlace k)) (T.dimsFrom (now (w .entry)) 0) ⌝ }
 {
     let p = 16 + 32 * k as usize;

@@ -1,12 +1,15 @@
 // The table's words: what they are read as, and which words are a table. Every public function answers for every list of words; what is read past
 // the end is 0.
 mod fine;
+mod fitting;
 mod kinds;
 mod rows;
 mod words;
 
 pub use fine::are_rows;
 pub use fine::is_table;
+pub use fitting::carries;
+pub use fitting::fits;
 pub use kinds::difference_of;
 pub use kinds::dimensionless;
 pub use kinds::dims_of;
@@ -16,7 +19,6 @@ pub use kinds::is_point;
 pub use kinds::is_resolved;
 pub use kinds::kind_count;
 pub use kinds::rate_of;
-pub use kinds::same_exponents;
 pub use kinds::target_of;
 pub use kinds::time;
 pub use rows::own_rows;

@@ -14,10 +14,10 @@ use Rattle.derive.proofs.fits.list.Statement.{statement}
 use Rattle.derive.proofs.fits.list.Tie as tie
 
 abbrev Inv-loop : tie.InvT-loop
-Inv-loop t w g n twins₀ count₀ k₀ twins count k = (k ≤ n) × (count ≤ k) × (length twins ≡ length twins₀) × (count ≡ length (picked (K.fits (kindsOf t) (at (dimsFrom w 0) g)) k)) × (twins ≡ overlay (picked (K.fits (kindsOf t) (at (dimsFrom w 0) g)) k) twins₀)
+Inv-loop t w g n twins₀ first count₀ k₀ twins count k = (k ≤ n) × (count ≤ k) × (length twins ≡ length twins₀) × (count ≡ length (picked (K.fits (kindsOf t) (at (dimsFrom w 0) g)) k)) × (twins ≡ overlay (picked (K.fits (kindsOf t) (at (dimsFrom w 0) g)) k) twins₀)
 
 abbrev μ-loop : tie.MeasureT-loop
-μ-loop t w g n twins₀ count₀ k₀ twins count k = n - k
+μ-loop t w g n twins₀ first count₀ k₀ twins count k = n - k
 
 pub list-spec : {M : Type 1} → statement M
-list-spec = tie.close (tie.spec Inv-loop μ-loop (λ c. search (picks, needs)) (search needs) (search needs) (search needs) (search needs) (search needs) (search needs) (λ c. ⊎-elim (λ x. search (picks, needs)) (λ x. search (picks, needs)) (c .if1 .came)) (search needs) (λ c. search (picks, needs)))
+list-spec = tie.close (tie.spec Inv-loop μ-loop (search needs) (λ c. search (picks, needs)) (search needs) (search needs) (search needs) (search needs) (search needs) (search needs) (λ c. ⊎-elim (λ x. search (picks, needs)) (λ x. search (picks, needs)) (c .if1 .came)) (search needs) (λ c. search (picks, needs)))

@@ -15,10 +15,10 @@ use Rattle.derive.proofs.fits.tally.Statement.{statement}
 use Rattle.derive.proofs.fits.tally.Tie as tie
 
 abbrev Inv-loop : tie.InvT-loop
-Inv-loop t w g n count₀ last₀ k₀ count last k = (k ≤ n) × (count ≤ k) × (count ≡ length (picked (K.fits (kindsOf t) (at (dimsFrom w 0) g)) k)) × (last ≡ lastOf (picked (K.fits (kindsOf t) (at (dimsFrom w 0) g)) k))
+Inv-loop t w g n first count₀ last₀ k₀ count last k = (k ≤ n) × (count ≤ k) × (count ≡ length (picked (K.fits (kindsOf t) (at (dimsFrom w 0) g)) k)) × (last ≡ lastOf (picked (K.fits (kindsOf t) (at (dimsFrom w 0) g)) k))
 
 abbrev μ-loop : tie.MeasureT-loop
-μ-loop t w g n count₀ last₀ k₀ count last k = n - k
+μ-loop t w g n first count₀ last₀ k₀ count last k = n - k
 
 pub tally-spec : {M : Type 1} → statement M
-tally-spec = tie.close (tie.spec Inv-loop μ-loop (λ c. search (seens, picks, needs)) (search needs) (search needs) (search needs) (search needs) (λ c. ⊎-elim (λ x. search (seens, picks, needs)) (λ x. search (seens, picks, needs)) (c .if1 .came)) (λ c. search (seens, needs)))
+tally-spec = tie.close (tie.spec Inv-loop μ-loop (search needs) (λ c. search (seens, picks, needs)) (search needs) (search needs) (search needs) (search needs) (λ c. ⊎-elim (λ x. search (seens, picks, needs)) (λ x. search (seens, picks, needs)) (c .if1 .came)) (λ c. search (seens, needs)))

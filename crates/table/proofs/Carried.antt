@@ -10,30 +10,30 @@ use Rattle.dimension.specs.Dimension as D
 use Rattle.dimension.specs.declared.dimensions.Dimensions.{Dimensions}
 use Rattle.rules.specs.Kinds.{point, carries, fits}
 use Rattle.rules.specs.Table.{kindsOf, kindPlace, dimsFrom}
+use Rattle.table.specs.Shown.{graded}
 use Rattle.table.proofs.Fields.{resolved-is, unresolved-is}
-use Rattle.derive.specs.Shown.{at}
 
 module _ (t : List ℕ) (d : Dimensions) (g k : ℕ) where
-  pub carries-grade : {v : ℕ} → v ≡ kindsOf t .grade k → (v ≡ g → ⊥) → false ≡ carries (kindsOf t) (at d g) k
+  pub carries-grade : {v : ℕ} → v ≡ kindsOf t .grade k → (v ≡ g → ⊥) → false ≡ carries (kindsOf t) (graded d g) k
   unfolding carries
   carries-grade {v} e f = rw (← e, ne-eqb v g f)
 
   module _ {v : ℕ} {b : Bool} (e : v ≡ kindsOf t .grade k) (f : v ≡ g) (p : b ≡ isSome (kindsOf t .dims k)) where
-    pub carries-unresolved : not b ≡ true → false ≡ carries (kindsOf t) (at d g) k
+    pub carries-unresolved : not b ≡ true → false ≡ carries (kindsOf t) (graded d g) k
     unfolding carries
     carries-unresolved q = rw (unresolved-is t k p (not-true b q), and-false)
 
-    pub carries-dims : {u : Bool} → not b ≡ false → u ≡ D.equal (dimsFrom t (kindPlace k)) d → u ≡ carries (kindsOf t) (at d g) k
+    pub carries-dims : {u : Bool} → not b ≡ false → u ≡ D.equal (dimsFrom t (kindPlace k)) d → u ≡ carries (kindsOf t) (graded d g) k
     unfolding carries
     carries-dims q h = rw (← e, eq-eqb v g f, resolved-is t k p (not-false b q)) h
 
   -- a point fits nothing; of another kind it is asked whether it carries them
   module _ {b : Bool} (e : b ≡ point (kindsOf t) k) where
-    pub fits-point : b ≡ true → false ≡ fits (kindsOf t) (at d g) k
+    pub fits-point : b ≡ true → false ≡ fits (kindsOf t) (graded d g) k
     unfolding fits
     fits-point p = rw (← e, p)
 
-    pub fits-other : {u : Bool} → b ≡ false → u ≡ carries (kindsOf t) (at d g) k → u ≡ fits (kindsOf t) (at d g) k
+    pub fits-other : {u : Bool} → b ≡ false → u ≡ carries (kindsOf t) (graded d g) k → u ≡ fits (kindsOf t) (graded d g) k
     unfolding fits
     fits-other p h = rw (← e, p) h
 

@@ -1,0 +1,117 @@
+-- The words of a kind compared with those of dimensions, all at once: they are the same just where the dimensions are, and then flag, grade and
+-- difference say whether the kind fits. Assumes nothing.
+use Prim.Native.Nat.{ℕ, _+_, _*_, _/_, _%_, _<_, _≤_}
+use mathlib.Core.Path.{_≡_, refl, sym, _∙_, ap}
+use mathlib.Core.Bool.{Bool, true, false, cond, not, _&&_, and-false}
+use mathlib.Core.List.{List}
+use mathlib.Core.Option.{some, none}
+use native.Mathlib.Omega.{arith}
+use borrow.Author.Tests.{lt-ltb, ltb-true, ltb-false, le-leb, lt-leb, eqb-true, eqb-false, ne-eqb, not-true, not-false}
+use lib.Dec.{eqb, ltb, leb}
+use lib.ListN.{getD}
+use Rattle.laws.specs.Options.{isSome, found}
+use Rattle.laws.specs.Ranges.{all, tab, below}
+use Rattle.laws.proofs.All.{all-at, all-of, all-here}
+use Rattle.laws.proofs.Cases.{and-left, and-right, and-both}
+use Rattle.laws.proofs.Tab.{tab-at, tab-same}
+use Rattle.dimension.specs.Fraction as F
+use Rattle.dimension.specs.Dimension as D
+use Rattle.dimension.specs.declared.rational.Rational.{Rational}
+use Rattle.dimension.specs.declared.dimensions.Dimensions.{Dimensions}
+use Rattle.dimension.proofs.ExponentLaws as E
+use Rattle.dimension.proofs.DimensionLaws as L
+use Rattle.rules.specs.Kinds as K
+use Rattle.rules.specs.Table.{word, kindsOf, kindsIn, kindPlace, indexOr, exponentFrom, dimsFrom}
+use Rattle.table.specs.Shown.{graded, sameWord, fitsWords}
+use Rattle.table.proofs.Exponents.{pair-same}
+
+module _ (t : List ℕ) (p : ℕ) (w : List ℕ) (a : (i : ℕ) → word t i < 4294967296) (b : (i : ℕ) → word w i < 4294967296) where
+  -- a pair of words is an exponent
+  pair : (j : ℕ) → (sameWord t p w (2 * j) && sameWord t p w (2 * j + 1)) ≡ F.equal (exponentFrom t p j) (exponentFrom w 0 j)
+  unfolding sameWord
+  pair j =
+      let e : p + (2 * j + 1) ≡ p + 2 * j + 1 = omega arith in
+      rw e (pair-same t p w j refl refl refl refl (a (p + 2 * j)) (b (2 * j)))
+
+  exponents : all (sameWord t p w) 24 ≡ true → (j : ℕ) → j < 12 → exponentFrom t p j ≡ exponentFrom w 0 j
+  exponents e j h =
+      let x = all-at (sameWord t p w) 24 (2 * j) e (omega arith) in
+      let y = all-at (sameWord t p w) 24 (2 * j + 1) e (omega arith) in
+      E.equal-same (exponentFrom t p j) (exponentFrom w 0 j) (sym (pair j) ∙ and-both x y)
+
+  both : dimsFrom t p ≡ dimsFrom w 0 → (j : ℕ) → j < 12 → (sameWord t p w (2 * j) && sameWord t p w (2 * j + 1)) ≡ true
+  unfolding dimsFrom
+  both e j h =
+      let x : getD (tab (exponentFrom t p) 12) j F.zero ≡ getD (tab (exponentFrom w 0) 12) j F.zero = ap (λ (d : Dimensions). getD (d .powers) j F.zero) e in
+      let y : exponentFrom t p j ≡ exponentFrom w 0 j = sym (tab-at (exponentFrom t p) 12 j F.zero h) ∙ x ∙ tab-at (exponentFrom w 0) 12 j F.zero h in
+      pair j ∙ ap (λ (c : Rational). F.equal (exponentFrom t p j) c) (sym y) ∙ E.same-equal (exponentFrom t p j)
+
+  words : dimsFrom t p ≡ dimsFrom w 0 → (i : ℕ) → i < 24 → sameWord t p w i ≡ true
+  words e i h = go (eqb (i % 2) 0) refl
+    where
+      go : (c : Bool) → eqb (i % 2) 0 ≡ c → sameWord t p w i ≡ true
+      go true q =
+          let z : 2 * (i / 2) ≡ i = omega (arith, eqb-true (i % 2) 0 q) in
+          rw z at (and-left (sameWord t p w (2 * (i / 2))) (sameWord t p w (2 * (i / 2) + 1)) (both e (i / 2) (omega arith)))
+      go false q =
+          let o = eqb-false (i % 2) 0 q in
+          let z : 2 * (i / 2) + 1 ≡ i = omega arith in
+          rw z at (and-right (sameWord t p w (2 * (i / 2))) (sameWord t p w (2 * (i / 2) + 1)) (both e (i / 2) (omega arith)))
+
+  pub words-same : all (sameWord t p w) 24 ≡ D.equal (dimsFrom t p) (dimsFrom w 0)
+  unfolding dimsFrom
+  words-same = go (all (sameWord t p w) 24) refl (D.equal (dimsFrom t p) (dimsFrom w 0)) refl
+    where
+      go : (x : Bool) → all (sameWord t p w) 24 ≡ x → (y : Bool) → D.equal (dimsFrom t p) (dimsFrom w 0) ≡ y → x ≡ y
+      go true q true r = refl
+      go false q false r = refl
+      go true q false r = sym (L.same-equal (dimsFrom t p) (dimsFrom w 0) (ap D.dimensions (tab-same (exponentFrom t p) (exponentFrom w 0) 12 (exponents q)))) ∙ r
+      go false q true r = sym q ∙ all-of (sameWord t p w) 24 (words (L.equal-same (dimsFrom t p) (dimsFrom w 0) r))
+
+-- ---- the whole kind
+no-difference : (d : ℕ) → leb 65535 d ≡ not (isSome (indexOr d))
+no-difference d = go (ltb d 65535) refl
+  where
+    go : (x : Bool) → ltb d 65535 ≡ x → leb 65535 d ≡ not (isSome (indexOr d))
+    go true q = rw (q, lt-leb 65535 d (ltb-true d 65535 q))
+    go false q = rw (q, le-leb 65535 d (ltb-false d 65535 q))
+
+and-true : (b : Bool) → (b && true) ≡ b
+and-true true = refl
+and-true false = refl
+
+in-turn : (s f e n : Bool) (d x : Dimensions) → s ≡ D.equal d x → (s && ((f && e) && n)) ≡ (n && (e && found (cond f (some d) none) (λ y. D.equal y x) false))
+in-turn s true true true d x p = and-true s ∙ p
+in-turn s true true false d x p = and-false s
+in-turn s true false true d x p = and-false s
+in-turn s true false false d x p = and-false s
+in-turn s false e n d x p = and-false s ∙ sym (ap (λ (b : Bool). n && b) (and-false e) ∙ and-false n)
+
+pub fits-words : (t w : List ℕ) (g k : ℕ) {v : Bool} → ((i : ℕ) → word t i < 4294967296) → ((i : ℕ) → word w i < 4294967296) → k < kindsIn t → v ≡ fitsWords t (kindPlace k) w g → v ≡ K.fits (kindsOf t) (graded (dimsFrom w 0) g) k
+unfolding fitsWords K.fits K.carries kindsOf below
+fits-words t w g k a b h e =
+    e ∙ rw (no-difference (word t (kindPlace k + 27)), lt-ltb k (kindsIn t) h)
+    (in-turn (all (sameWord t (kindPlace k) w) 24) (eqb (word t (kindPlace k + 24)) 1) (eqb (word t (kindPlace k + 25)) g) (not (isSome (indexOr (word t (kindPlace k + 27))))) (dimsFrom t (kindPlace k)) (dimsFrom w 0) (words-same t (kindPlace k) w a b))
+
+-- ---- word by word in code
+module _ (t : List ℕ) (p : ℕ) (w : List ℕ) (g : ℕ) where
+  -- the pivot differs
+  pub words-pivot : (i : ℕ) → i < 24 → (word t (p + i) ≡ word w i → ⊥) → false ≡ fitsWords t p w g
+  unfolding fitsWords sameWord
+  words-pivot i h f = rw (← all-here (sameWord t p w) i 24 h refl (ne-eqb (word t (p + i)) (word w i) f))
+
+  pub words-differ : {v : Bool} → v ≡ all (sameWord t p w) 24 → not v ≡ true → false ≡ fitsWords t p w g
+  unfolding fitsWords
+  words-differ {v} e f = rw (sym e ∙ not-true v f)
+
+  pub words-marks : {v u : Bool} → v ≡ all (sameWord t p w) 24 → not v ≡ false → u ≡ ((eqb (word t (p + 24)) 1 && eqb (word t (p + 25)) g) && leb 65535 (word t (p + 27))) → u ≡ fitsWords t p w g
+  unfolding fitsWords
+  words-marks {v} e f q = rw (sym e ∙ not-false v f) q
+
+-- ---- four tests that all hold
+pub all-four : (a b c d : Bool) → (((a && b) && c) && d) ≡ true → (a ≡ true) × (b ≡ true) × (c ≡ true) × (d ≡ true)
+all-four true true true true e = (refl, refl, refl, refl)
+all-four true true true false e = (refl, refl, refl, e)
+all-four true true false d e = (refl, refl, e, cc)
+all-four true false c d e = (refl, e, cc, cc)
+all-four false b c d e = (e, cc, cc, cc)
