@@ -2,3 +2,5 @@
 pub mod Sheets
 -- the words that the code makes of its answers
 mod Made
+-- where the report's part lies
+mod Pointed

@@ -1,5 +1,6 @@
 // The calls for programs in other languages. A lent slice crosses as a pointer and a length in elements. Each call writes its answer into a buffer of
 // 32 words and hands back whether that had room: a shorter one stays as it was, and the call is made all the same. bindings/README.md has the words.
+mod parts;
 mod words;
 
 use call::call;
@@ -7,14 +8,20 @@ use compile::compile;
 use lookup::Exponent;
 use lookup::combine;
 use lookup::power;
+use parts::kind_start;
+use parts::write_part;
+use report::kind_part;
 use words::write;
 ghost use mathlib.Core.Path.{_≡_};
+ghost use mathlib.Core.Bool.{true};
 ghost use lib.ListN.{length};
 ghost use Rattle.rules.specs.Refusal.{twinsAfter};
 ghost use Rattle.rules.specs.Image.{compileImage, tableAfter};
 ghost use Rattle.rules.specs.Lookup as lone;
 ghost use Rattle.rules.specs.Call as rule;
+ghost use Rattle.rules.specs.Report as told;
 ghost use Rattle.exports.specs.Sheet.{sheetOf, compiledWords, kindWords, termWords, hasRoom, written};
+ghost use Rattle.exports.specs.Part.{termBy, partWords, hasPartRoom, partWritten, pointed};
 
 // A catalog image compiled into a lent table.
 #[no_mangle]
@@ -95,4 +102,24 @@ pub extern "C" fn kind_formula(
 {
     let answer = call(table, rows, twins, bytes);
     write(answer, out)
+}
+
+// Which part of what is lent the report prints: of the image for a kind, of the word for a number.
+#[no_mangle]
+pub extern "C" fn kind_report(
+    image: &[u8],
+    word: &[u8],
+    kinded: bool,
+    kind: u16,
+    part: &mut [usize],
+) -> bool
+    ensures { λ v. ⌜ v ≡ hasPartRoom (now (part .entry)) ⌝ }
+    ensures { λ _. ⌜ now (part .exit) ≡ partWritten (partWords (now (image .entry)) (now (word .entry)) (termBy kinded kind)) (now (part .entry)) ⌝ }
+    ensures { λ v. ⌜ (v ≡ true → pointed (now (image .entry)) (now (word .entry)) (now (part .exit)) ≡ told.report (now (image .entry)) (now (word .entry)) (termBy kinded kind)) ⌝ }
+{
+    if kinded {
+        let n = kind_part(image, kind).len();
+        return write_part(1, kind_start(kind, n), n, part);
+    }
+    write_part(0, 0, word.len(), part)
 }
