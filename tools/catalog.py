@@ -21,18 +21,32 @@ from tools.image import read_image, write_image  # noqa: E402
 from tools.text import read_text, write_text  # noqa: E402
 
 
-def read_catalog(path):
-    """A catalog from its text or its image, told apart by zero bytes: every
-    image has some, and no text has."""
+def read_bytes(path):
     with open(path, "rb") as file:
-        data = file.read()
-    if b"\0" in data:
-        return read_image(data)
+        return file.read()
+
+
+def is_image(data):
+    """Whether a catalog is an image: every image has zero bytes, and no text
+    has."""
+    return b"\0" in data
+
+
+def text_catalog(data):
     try:
         return read_text(data.decode("ascii"))
     except UnicodeDecodeError as error:
         line = data[:error.start].count(b"\n") + 1
         raise BadInput("the text is not ASCII", line) from None
+
+
+def catalog_of(data):
+    """A catalog from its text or its image."""
+    return read_image(data) if is_image(data) else text_catalog(data)
+
+
+def read_catalog(path):
+    return catalog_of(read_bytes(path))
 
 
 def write_bytes(data):
@@ -53,8 +67,7 @@ def tokens_command(path, formula):
 
 
 def infix_command(path, token_path):
-    with open(token_path, "rb") as file:
-        print(infix(file.read(), read_catalog(path)))
+    print(infix(read_bytes(token_path), read_catalog(path)))
 
 
 def formulas_command(path, formulas_path):

@@ -26,7 +26,7 @@ def token(code, kind=0, numerator=0, denominator=0):
 
 class Parser:
     def __init__(self, text, catalog, line):
-        self.reader, self.output, self.depth = Reader(text, line), [], 0
+        self.reader, self.output, self.spans, self.depth = Reader(text, line), [], [], 0
         self.places = {}
         for place, kind in enumerate(catalog.kinds):
             self.places.setdefault(kind.id, []).append(place)
@@ -35,7 +35,13 @@ class Parser:
         self.expression(0)
         if not self.reader.ends():
             self.reader.fail(f"{self.reader.next.text!r} is not expected here")
-        return b"".join(self.output)
+        return b"".join(self.output), self.spans
+
+    def put(self, data, first, last=None):
+        """A token, with the part of the text that it came from: from one word
+        to another, or one alone."""
+        self.output.append(data)
+        self.spans.append((first.column - 1, (last or first).end - 1))
 
     def expression(self, lowest):
         """An operand and what follows it at this precedence or a tighter one,
@@ -47,14 +53,15 @@ class Parser:
                 return
             level, sign = found
             self.expression(level + 1)
-            self.output.append(token(CODES[sign]))
+            self.put(token(CODES[sign.text]), sign)
 
     def sign(self, lowest):
         """Takes a sign of at least this precedence, if one is next."""
+        word = self.reader.next
         for level in range(lowest, len(LEVELS)):
             for sign in LEVELS[level]:
                 if self.reader.takes(sign):
-                    return level, sign
+                    return level, word
         return None
 
     def bracket(self):
@@ -70,13 +77,14 @@ class Parser:
 
     def power(self):
         self.operand()
+        sign = self.reader.next
         if not self.reader.takes("^"):
             return
         if self.reader.takes("inexact"):
-            self.output.append(token(INEXACT))
+            self.put(token(INEXACT), sign)
         elif self.reader.takes("~"):
             self.inexact_value()
-            self.output.append(token(INEXACT))
+            self.put(token(INEXACT), sign)
         else:
             word = self.reader.next
             if word.type == "real":
@@ -86,7 +94,7 @@ class Parser:
             if not -2**31 <= numerator < 2**31 or not 0 <= denominator < 2**32:
                 self.reader.fail(f"the exponent {numerator}/{denominator} doesn't fit 32 bits",
                                  word)
-            self.output.append(token(POWER, 0, numerator, denominator))
+            self.put(token(POWER, 0, numerator, denominator), sign)
         if self.reader.next.text == "^" and self.reader.next.type == "symbol":
             self.reader.fail("a power of a power takes brackets: (a ^ 2) ^ 3")
 
@@ -99,30 +107,28 @@ class Parser:
         self.reader.take()
 
     def operand(self):
-        reader = self.reader
-        if reader.next.type == "symbol" and reader.next.text == "(":
+        reader, first = self.reader, self.reader.next
+        if first.type == "symbol" and first.text == "(":
             self.bracket()
         elif reader.takes("abs"):
             self.bracket()
-            self.output.append(token(ABSOLUTE))
+            self.put(token(ABSOLUTE), first)
         elif reader.takes("number"):
-            self.output.append(token(NUMBER))
+            self.put(token(NUMBER), first)
         elif reader.takes("@"):
             word = reader.next
             place = reader.integer("a kind's index after @")
             if not 0 <= place < 2**16:
                 reader.fail("a kind's index is 0 to 65535", word)
-            self.output.append(token(KIND, place))
+            self.put(token(KIND, place), first, word)
         elif reader.takes("-"):
             if reader.next.type not in ("whole", "real"):
                 reader.fail("a minus stands before a number only; write -1 * x for a negative x")
-            reader.take()
-            self.output.append(token(NUMBER))
-        elif reader.next.type in ("whole", "real"):
-            reader.take()
-            self.output.append(token(NUMBER))
+            self.put(token(NUMBER), first, reader.take())
+        elif first.type in ("whole", "real"):
+            self.put(token(NUMBER), reader.take())
         else:
-            self.output.append(token(KIND, self.place()))
+            self.put(token(KIND, self.place()), first)
 
     def place(self):
         word = self.reader.next
@@ -136,8 +142,14 @@ class Parser:
         return places[0]
 
 
-def tokens(formula, catalog, line=1):
+def parsed(formula, catalog, line=1):
+    """The bytes of a formula's tokens, and for each token the part of the text
+    that it came from: where it begins and where it ends, from 0."""
     return Parser(formula, catalog, line).whole_formula()
+
+
+def tokens(formula, catalog, line=1):
+    return parsed(formula, catalog, line)[0]
 
 
 def formula_lines(text):

@@ -171,9 +171,12 @@ def written_row(row):
     return "commutative " + line if row.commutative else line
 
 
+def written_header(word, catalog):
+    return f"{word} {written_name(getattr(catalog, word))}"
+
+
 def write_text(catalog):
     """The one way in which this catalog is written: header, kinds, rows."""
-    header = [f"{word} {written_name(name)}" for word, name in
-              (("dimensionless", catalog.dimensionless), ("time", catalog.time)) if name]
+    header = [written_header(word, catalog) for word in ("dimensionless", "time") if getattr(catalog, word)]
     parts = [header, [written_kind(k) for k in catalog.kinds], [written_row(r) for r in catalog.rows]]
     return "\n\n".join("\n".join(part) for part in parts if part) + "\n"

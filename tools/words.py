@@ -27,7 +27,8 @@ PLAIN = re.compile(r"[A-Za-z_][A-Za-z0-9_]*\Z")
 class Word:
     type: str  # name, reserved, id (quoted), whole, real, symbol or end
     text: str
-    column: int
+    column: int  # of its first character, from 1
+    end: int  # the column after its last
 
 
 def written_name(name):
@@ -51,9 +52,9 @@ def words(text, line):
         if kind == "quoted":
             kind, part = "id", re.sub(r'\\(["\\])', r"\1", part[1:-1])
         if kind not in ("space", "comment"):
-            found.append(Word(kind, part, at + 1))
+            found.append(Word(kind, part, at + 1, match.end() + 1))
         at = match.end()
-    found.append(Word("end", "the end of the line", len(text) + 1))
+    found.append(Word("end", "the end of the line", len(text) + 1, len(text) + 1))
     return found
 
 
