@@ -4,8 +4,8 @@
 
    prints, for the compilation and for each file of tokens, the answer's words
    (the zeros at the end left off) and the twins that it lists; then what two of
-   the teaching catalog's kinds multiply to, powers, and what becomes of buffers
-   that are too short or longer than need be. */
+   the teaching catalog's kinds multiply to, powers, what becomes of buffers
+   that are too short or longer than need be, and what a report prints. */
 #include "kind_check.h"
 
 #include <stdio.h>
@@ -15,6 +15,7 @@ static uint32_t other[KIND_TABLE_WORDS + 1];
 static uint16_t twins[KIND_TWINS];
 static uint32_t out[KIND_OUT_WORDS];
 static uint8_t image[121 * 512];
+static size_t image_len;
 static uint8_t tokens[128 * KIND_TOKEN_BYTES];
 
 /* The bytes of a file; more than there is room for are left off. */
@@ -53,13 +54,24 @@ static void print_answer(const char *what)
     printf("\n");
 }
 
+/* What a report prints, with the place of the part that it is. */
+static void print_report(const char *what, bool is_kind, uint16_t kind)
+{
+    static const uint8_t word[] = "plain number";
+    size_t part[KIND_PART_WORDS];
+    kind_report(image, image_len, word, sizeof word - 1, is_kind, kind, part, KIND_PART_WORDS);
+    const uint8_t *from = part[0] == KIND_KIND ? image : word;
+    printf("%s: %zu bytes at %zu of the %s: \"%.*s\"\n", what, part[2], part[1],
+           part[0] == KIND_KIND ? "image" : "word", (int)part[2], (const char *)from + part[1]);
+}
+
 int main(int argc, char **argv)
 {
     if (argc < 2) {
         fprintf(stderr, "usage: %s IMAGE TOKENS..\n", argv[0]);
         return 2;
     }
-    size_t image_len = read_file(argv[1], image, sizeof image);
+    image_len = read_file(argv[1], image, sizeof image);
     kind_compile(image, image_len, table, KIND_TABLE_WORDS, out, KIND_OUT_WORDS);
     print_answer("compile");
     if (out[0] != KIND_COMPILED)
@@ -100,5 +112,16 @@ int main(int argc, char **argv)
     kind_compile(image, image_len, other, KIND_TABLE_WORDS + 1, out, KIND_OUT_WORDS);
     print_answer("a table of 9297 words");
     printf("words written: %zu, the last is %u\n", written(), (unsigned)other[KIND_TABLE_WORDS]);
+
+    /* a report, and where there is nothing to print */
+    print_report("kind 1", true, 1);
+    print_report("kind 8", true, 8);
+    print_report("kind 9", true, 9);
+    print_report("a number", false, 0);
+    size_t part[2] = {77, 77};
+    told = kind_report(image, image_len, NULL, 0, true, 1, part, 2);
+    printf("2 entries: %s, the first is %zu\n", told ? "told" : "not told", part[0]);
+    image[600] ^= 1;
+    print_report("kind 1 of a damaged image", true, 1);
     return 0;
 }

@@ -14,9 +14,9 @@
    at the same time. A compilation takes less than 200 KB of stack, any other
    call less than 16 KB.
 
-   The answer. Each call writes 32 words into `out` and returns true. An `out`
-   of fewer than 32 words stays as it was, and false is returned; the table
-   or twin list is then written all the same.
+   The answer. Each call but kind_report writes 32 words into `out` and returns
+   true. An `out` of fewer than 32 words stays as it was, and false is
+   returned; the table or twin list is then written all the same.
 
    word 0      KIND_NUMBER, KIND_KIND, KIND_REFUSED or KIND_COMPILED
    word 1      the kind's index, or the refusal's number; else 0
@@ -42,6 +42,7 @@ extern "C" {
 
 /* Lengths in elements. A shorter table or twin list is refused with 5. */
 #define KIND_OUT_WORDS 32
+#define KIND_PART_WORDS 3
 #define KIND_TABLE_WORDS 9296
 #define KIND_TWINS 240
 #define KIND_TOKEN_BYTES 12
@@ -105,6 +106,24 @@ bool kind_formula(const uint32_t *table, size_t table_len,
                   uint16_t *twins, size_t twins_len,
                   const uint8_t *tokens, size_t tokens_len,
                   uint32_t *out, size_t out_len);
+
+/* What a report prints for a formula's answer, as a part of what is lent: for a
+   kind its id, which stands in the image, the padding left off; for a number
+   the whole of the caller's own word. Nothing is copied.
+
+   part[0]     KIND_KIND: it is a part of the image; KIND_NUMBER: of the word
+   part[1]     its first byte there, from 0
+   part[2]     its length in bytes
+
+   A kind's part is empty, and begins at 0, where the image meets one of the
+   refusals 1 to 4 or the kind is past the end. `part[1] + part[2]` is never
+   past the end of the slice. True; a `part` of fewer than KIND_PART_WORDS
+   entries stays as it was, and false is returned. Where is_kind is false,
+   kind may be anything. */
+bool kind_report(const uint8_t *image, size_t image_len,
+                 const uint8_t *word, size_t word_len,
+                 bool is_kind, uint16_t kind,
+                 size_t *part, size_t part_len);
 
 #ifdef __cplusplus
 }

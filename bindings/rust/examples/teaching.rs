@@ -4,7 +4,7 @@
 use std::process::ExitCode;
 use std::{env, fs};
 
-use kind_check::{Catalog, Exponent, Op, Refusal, Term, Token};
+use kind_check::{report, Catalog, Exponent, Op, Refusal, Term, Token};
 
 fn show(what: &str, answer: Result<u16, Refusal>) {
     match answer {
@@ -19,6 +19,11 @@ fn show_formula(what: &str, answer: Result<Term, Refusal>) {
         Ok(Term::Kind(kind)) => println!("{what}: kind {kind}"),
         Err(refusal) => println!("{what}: {refusal}"),
     }
+}
+
+fn show_report(what: &str, image: &[u8], term: Term) {
+    let printed = report(image, b"plain number", term);
+    println!("{what}: \"{}\"", String::from_utf8_lossy(printed));
 }
 
 fn main() -> ExitCode {
@@ -70,9 +75,16 @@ fn main() -> ExitCode {
     show_formula("an open formula", catalog.formula(&product[..2]));
     show_formula("no tokens", catalog.formula(&[]));
 
-    // what a damaged image is refused for
     let mut damaged = image.clone();
     damaged[600] ^= 1;
+
+    // what a report prints, and where there is nothing to print
+    show_report("the report of kind 2", &image, Term::Kind(2));
+    show_report("of a number", &image, Term::Number);
+    show_report("of kind 9", &image, Term::Kind(9));
+    show_report("of kind 2 over a damaged image", &damaged, Term::Kind(2));
+
+    // what a damaged image is refused for
     match Catalog::compile(&damaged) {
         Ok(_) => println!("a damaged image compiles"),
         Err(refusal) => println!("a damaged image: {refusal}"),

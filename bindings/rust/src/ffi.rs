@@ -1,6 +1,6 @@
 //! The library's functions as they are, and a safe call of each: a slice is lent as its pointer and its length.
 
-use crate::{Out, OUT_WORDS};
+use crate::{Out, Part, OUT_WORDS, PART_WORDS};
 
 #[rustfmt::skip]
 extern "C" {
@@ -39,10 +39,18 @@ extern "C" {
         tokens: *const u8, tokens_len: usize,
         out: *mut u32, out_len: usize,
     ) -> bool;
+
+    fn kind_report(
+        image: *const u8, image_len: usize,
+        word: *const u8, word_len: usize,
+        is_kind: bool, kind: u16,
+        part: *mut usize, part_len: usize,
+    ) -> bool;
 }
 
 // Why each `unsafe` block is sound: the functions are proved to end and to read and write nothing but the slices that are lent, within their
-// lengths, for every content; Rust's borrows keep the slices alive and apart for the call. An `Out` has room, so the result is always true.
+// lengths, for every content; Rust's borrows keep the slices alive and apart for the call. An `Out` has room, and so
+// has a `Part`, so the result is always true.
 
 pub fn compile(image: &[u8], table: &mut [u32]) -> Out {
     let mut out = [0; OUT_WORDS];
@@ -103,4 +111,21 @@ pub fn formula(table: &[u32], rows: &[u32], twins: &mut [u16], tokens: &[u8]) ->
         )
     };
     out
+}
+
+pub fn report(image: &[u8], word: &[u8], is_kind: bool, kind: u16) -> Part {
+    let mut part = [0; PART_WORDS];
+    unsafe {
+        kind_report(
+            image.as_ptr(),
+            image.len(),
+            word.as_ptr(),
+            word.len(),
+            is_kind,
+            kind,
+            part.as_mut_ptr(),
+            part.len(),
+        )
+    };
+    part
 }

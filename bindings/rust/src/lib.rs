@@ -1,7 +1,7 @@
 //! The proved kind check, called from Rust.
 //!
 //! A [`Catalog`] owns what the library is lent: the compiled table, its rows in force and the list of twins. Every answer is the library's own, told
-//! as an enum; a [`Refusal`] prints its cause in words.
+//! as an enum; a [`Refusal`] prints its cause in words, and [`report`] has what is printed for an answer.
 
 mod ffi;
 mod refusal;
@@ -14,15 +14,30 @@ const TABLE_WORDS: usize = 9296;
 const ROWS_AT: usize = 7696;
 const TWINS: usize = 240;
 const OUT_WORDS: usize = 32;
+const PART_WORDS: usize = 3;
 
 /// An answer's words.
 type Out = [u32; OUT_WORDS];
+
+/// Where a part lies: 1 for the image and 0 for the word, its first byte, its length.
+type Part = [usize; PART_WORDS];
 
 /// What a formula is: a number or a kind, by its index.
 #[derive(Clone, Copy, Debug, PartialEq, Eq)]
 pub enum Term {
     Number,
     Kind(u16),
+}
+
+/// What a report prints for a formula's answer: a kind's id as it stands in the image, its padding left off, or the caller's own word for a number,
+/// whole. Empty where the image meets one of the refusals 1 to 4, or the kind is past the end.
+pub fn report<'a>(image: &'a [u8], word: &'a [u8], term: Term) -> &'a [u8] {
+    let [lender, start, length] = match term {
+        Term::Number => ffi::report(image, word, false, 0),
+        Term::Kind(kind) => ffi::report(image, word, true, kind),
+    };
+    let whole = if lender == 1 { image } else { word };
+    &whole[start..start + length]
 }
 
 /// A compiled catalog.
