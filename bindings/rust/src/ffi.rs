@@ -115,17 +115,6 @@ pub fn formula(table: &[u32], rows: &[u32], twins: &mut [u16], tokens: &[u8]) ->
 
 pub fn report(image: &[u8], word: &[u8], is_kind: bool, kind: u16) -> Part {
     let mut part = [0; PART_WORDS];
-    unsafe {
-        kind_report(
-            image.as_ptr(),
-            image.len(),
-            word.as_ptr(),
-            word.len(),
-            is_kind,
-            kind,
-            part.as_mut_ptr(),
-            part.len(),
-        )
-    };
+    unsafe { kind_report(image.as_ptr(), image.len(), word.as_ptr(), word.len(), is_kind, kind, part.as_mut_ptr(), part.len()) };
     part
 }

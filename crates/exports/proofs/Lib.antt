@@ -2,5 +2,5 @@
 pub mod Sheets
 -- the words that the code makes of its answers
 mod Made
--- where the report's part lies
-mod Pointed
+-- where the report's part lies, and that it is within the slice that lends it (`part-within`)
+pub mod Pointed

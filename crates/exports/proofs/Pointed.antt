@@ -6,7 +6,7 @@ use mathlib.Core.List.{List, [], _∷_}
 use native.Mathlib.Omega.{arith}
 use borrow.Author.Tests.{le-leb, lt-leb, ne-eqb}
 use lib.Dec.{eqb, ltb}
-use lib.ListN.{length, take, drop, set}
+use lib.ListN.{length, take, drop, set, getD, length-take, length-drop}
 use lib.Seq.{take-all}
 use Rattle.laws.specs.Options.{found}
 use Rattle.laws.specs.Out.{given, refused}
@@ -57,6 +57,25 @@ report-lies : (image word old : List ℕ) (t : Term) → pointed image word (ove
 unfolding pointed partWords report
 report-lies image word old Number = take-all (length word) word (omega arith)
 report-lies image word old (Kind k) = kind-lies image k
+
+-- the part does not reach past the end of the slice that lends it
+empty-start : (k : ℕ) → kindStart k 0 ≡ 0
+unfolding kindStart
+empty-start k = refl
+
+kind-within : (s : List ℕ) (k : ℕ) → kindStart k (length (kindPart s k)) + length (kindPart s k) ≤ length s
+kind-within s k = go (kindPart s k) (kind-lies s k)
+  where
+    go : (l : List ℕ) → Lies s k l → kindStart k (length l) + length l ≤ length s
+    go [] e = omega (arith, empty-start k)
+    go (x ∷ l) e =
+        let n = ap length e in
+        omega (arith, simp (length-take, length-drop) at n)
+
+pub part-within : (image word : List ℕ) (t : Term) → getD (partWords image word t) 1 0 + getD (partWords image word t) 2 0 ≤ length (cond (eqb (getD (partWords image word t) 0 0) 0) word image)
+unfolding partWords report
+part-within image word Number = omega arith
+part-within image word (Kind k) = kind-within image k
 
 -- ---- a lent buffer
 module _ (old : List ℕ) (x y z : ℕ) where

@@ -1,5 +1,6 @@
 // The calls for programs in other languages. A lent slice crosses as a pointer and a length in elements. Each call writes its answer into a buffer of
-// 32 words and hands back whether that had room: a shorter one stays as it was, and the call is made all the same. bindings/README.md has the words.
+// 32 words and hands back whether that had room: a shorter one stays as it was, and the call is made all the same. bindings/README.md has the words. The
+// report's answer is three words, which tell where the part that it prints lies.
 mod parts;
 mod words;
 
@@ -19,7 +20,7 @@ ghost use Rattle.rules.specs.Refusal.{twinsAfter};
 ghost use Rattle.rules.specs.Image.{compileImage, tableAfter};
 ghost use Rattle.rules.specs.Lookup as lone;
 ghost use Rattle.rules.specs.Call as rule;
-ghost use Rattle.rules.specs.Report as told;
+ghost use Rattle.rules.specs.Report as prints;
 ghost use Rattle.exports.specs.Sheet.{sheetOf, compiledWords, kindWords, termWords, hasRoom, written};
 ghost use Rattle.exports.specs.Part.{termBy, partWords, hasPartRoom, partWritten, pointed};
 
@@ -115,7 +116,7 @@ pub extern "C" fn kind_report(
 ) -> bool
     ensures { λ v. ⌜ v ≡ hasPartRoom (now (part .entry)) ⌝ }
     ensures { λ _. ⌜ now (part .exit) ≡ partWritten (partWords (now (image .entry)) (now (word .entry)) (termBy kinded kind)) (now (part .entry)) ⌝ }
-    ensures { λ v. ⌜ (v ≡ true → pointed (now (image .entry)) (now (word .entry)) (now (part .exit)) ≡ told.report (now (image .entry)) (now (word .entry)) (termBy kinded kind)) ⌝ }
+    ensures { λ v. ⌜ (v ≡ true → pointed (now (image .entry)) (now (word .entry)) (now (part .exit)) ≡ prints.report (now (image .entry)) (now (word .entry)) (termBy kinded kind)) ⌝ }
 {
     if kinded {
         let n = kind_part(image, kind).len();
