@@ -8,6 +8,8 @@ use libc::STDOUT_FILENO;
 use printed::formula_part;
 use printed::image_part;
 use table::own_rows;
+ghost use mathlib.Core.Path.{_≡_};
+ghost use Rattle.details.specs.Listed.{listsTwins, twinCount};
 
 // As much as kindcheck reads; a formula that goes on past that is too long, whatever it says.
 const ROOM: usize = 63489;
@@ -40,9 +42,18 @@ fn print_twins(twins: [u16; 240], count: usize) {
     io::write_all(STDOUT_FILENO, b"\n");
 }
 
-// How many twins an answer lists: what 44 and 48 return.
-fn twin_count(words: [u32; 32]) -> usize {
-    if words[0] == 2 && (words[1] == 44 || words[1] == 48) {
+// Whether an answer is a refusal that lists twins, 44 or 48.
+fn lists_twins(what: u32, number: u32) -> bool
+    ensures { λ r. ⌜ r ≡ listsTwins what number ⌝ }
+{
+    what == 2 && (number == 44 || number == 48)
+}
+
+// How many twins it lists.
+fn twin_count(words: [u32; 32]) -> usize
+    ensures { λ r. ⌜ r ≡ twinCount words ⌝ }
+{
+    if lists_twins(words[0], words[1]) {
         return words[3] as usize;
     }
     0
