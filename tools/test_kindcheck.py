@@ -122,6 +122,27 @@ class Stored(unittest.TestCase):
             self.assertEqual(told.rstrip("\n").split("\n") + [f"exit {status}"], wanted, command)
 
 
+class Programs(unittest.TestCase):
+    def test_both_answer_alike(self):
+        run(os.path.join(EXAMPLES, "teaching.catalog"), "2")  # builds what is missing
+        catalog = read_catalog(os.path.join(EXAMPLES, "parlour.catalog"))
+        names = [kind.id for kind in catalog.kinds]
+        for left in names:
+            for right in names[::3]:
+                for sign in ("+", "*", "/"):
+                    data = write_image(catalog) + parsed(f"{left} {sign} {right}", catalog)[0]
+                    line, _ = self.lines("kindcheck", data)
+                    words = self.lines("details", data)[1].split()
+                    told = {"1": f"kind {words[1]} {names[int(words[1]) % len(names)]}",
+                            "2": f"refused {words[1]} {words[2]}"}
+                    self.assertEqual(line, told[words[0]])
+
+    def lines(self, name, data):
+        program = os.path.join(ROOT, "target", "bin", name)
+        result = subprocess.run([program], input=data, capture_output=True, check=True)
+        return result.stdout.decode("ascii").split("\n")
+
+
 # A catalog that is refused, the place and the words.
 CLOCK = "time clock\nkind clock b1 difference span\nkind span b1\n"
 CATALOGS = {
