@@ -1,13 +1,19 @@
 -- Numbers and the bits that stand for them, by two's complement. Assumes nothing.
-use mathlib.Core.Path.{_≡_, sym, _∙_, ap}
+use mathlib.Core.Path.{_≡_, refl, sym, _∙_, ap}
+use mathlib.Core.Bool.{Bool, true, false, _||_}
 use Prim.Native.Nat.{ℕ, suc, _+_, _-_, _<_, _≤_}
 use native.Mathlib.Decide.{decLe}
 use native.Mathlib.Omega.{arith}
+use borrow.Author.Tests.{ltb-true, leb-true}
+use lib.Dec.{ltb, leb}
 use lib.IntN.{ℤ, pos, negsuc, natAbs}
 use mir.Syntax.{w32}
 use mir.Val.{SFits}
-use Rattle.dimension.specs.Integer.{bits32, twos}
+use Rattle.dimension.specs.Integer.{bits32, twos, up}
+use Rattle.dimension.specs.Fraction.{ratio, declared}
 use Rattle.dimension.proofs.Signs.{twos-low, twos-high}
+use Rattle.dimension.proofs.Whole.{gcd-one}
+use Rattle.dimension.proofs.ExponentLaws.{told-declared}
 
 -- 32 bits hold the bits of a number, and it is what they stand for
 pub bits-below : (x : ℤ) → SFits w32 x → bits32 x < 4294967296
@@ -33,6 +39,22 @@ twos-size half x h = go (decLe half x)
     go : Dec (half ≤ x) → natAbs (twos half x) ≤ half
     go (no f) = rw (← twos-low half x (omega arith)) (omega arith)
     go (yes f) = rw (← twos-high half x (half + half - suc x) f (omega arith)) (omega arith)
+
+-- 32 bits that stand for a number −32,768 to 32,767, and this number over 1, which can be declared
+pub whole-declared : (x : ℕ) → x < 4294967296 → (ltb x 32768 || leb 4294934528 x) ≡ true → declared (ratio (twos 2147483648 x) 1) ≡ true
+whole-declared x h e = go (ltb x 32768) refl
+  where
+    whole : (z : ℤ) → natAbs z ≤ 32768 → up z ≤ 32767 → declared (ratio z 1) ≡ true
+    whole z n t = told-declared (ratio z 1) (record { reduced = record { coprime = gcd-one (natAbs z); positive = omega arith }; num = n; den = omega arith; top = t })
+
+    go : (b : Bool) → ltb x 32768 ≡ b → declared (ratio (twos 2147483648 x) 1) ≡ true
+    go true q =
+        let l = ltb-true x 32768 q in
+        rw (← twos-low 2147483648 x (omega arith)) (whole (pos x) (omega arith) (omega arith))
+    go false q =
+        let u : leb 4294934528 x ≡ true = rw q at e in
+        let l = leb-true 4294934528 x u in
+        rw (← twos-high 2147483648 x (4294967295 - x) (omega arith) (omega arith)) (whole (negsuc (4294967295 - x)) (omega arith) (omega arith))
 
 -- and fits in a signed number of 32 bits
 pub twos-fits : (half x : ℕ) → half ≤ 2147483648 → x < half + half → SFits w32 (twos half x)

@@ -2,7 +2,7 @@
 -- difference say whether the kind fits. Assumes nothing.
 use Prim.Native.Nat.{ℕ, _+_, _*_, _/_, _%_, _<_, _≤_}
 use mathlib.Core.Path.{_≡_, refl, sym, _∙_, ap}
-use mathlib.Core.Bool.{Bool, true, false, cond, not, _&&_, and-false}
+use mathlib.Core.Bool.{Bool, true, false, cond, not, _&&_, _||_, and-false}
 use mathlib.Core.List.{List}
 use mathlib.Core.Option.{some, none}
 use native.Mathlib.Omega.{arith}
@@ -18,11 +18,12 @@ use Rattle.dimension.specs.Fraction as F
 use Rattle.dimension.specs.Dimension as D
 use Rattle.dimension.specs.declared.rational.Rational.{Rational}
 use Rattle.dimension.specs.declared.dimensions.Dimensions.{Dimensions}
+use Rattle.dimension.proofs.BitLaws.{whole-declared}
 use Rattle.dimension.proofs.ExponentLaws as E
 use Rattle.dimension.proofs.DimensionLaws as L
 use Rattle.rules.specs.Kinds as K
 use Rattle.rules.specs.Table.{word, kindsOf, kindsIn, kindPlace, indexOr, exponentFrom, dimsFrom}
-use Rattle.table.specs.Shown.{graded, sameWord, fitsWords}
+use Rattle.table.specs.Shown.{graded, sameWord, fitsWords, wholeAt}
 use Rattle.table.proofs.Exponents.{pair-same}
 
 module _ (t : List ℕ) (p : ℕ) (w : List ℕ) (a : (i : ℕ) → word t i < 4294967296) (b : (i : ℕ) → word w i < 4294967296) where
@@ -115,3 +116,16 @@ all-four true true true false e = (refl, refl, refl, e)
 all-four true true false d e = (refl, refl, e, cc)
 all-four true false c d e = (refl, e, cc, cc)
 all-four false b c d e = (e, cc, cc, cc)
+
+-- ---- whole exponents are declared ones
+module _ (t : List ℕ) (p : ℕ) (a : (i : ℕ) → word t i < 4294967296) where
+  whole-fine : (j : ℕ) → wholeAt t p j ≡ true → F.declared (exponentFrom t p j) ≡ true
+  unfolding wholeAt exponentFrom
+  whole-fine j e =
+      let one : Bool = eqb (word t (p + 2 * j + 1)) 1 in
+      let small : Bool = ltb (word t (p + 2 * j)) 32768 || leb 4294934528 (word t (p + 2 * j)) in
+      let z : word t (p + 2 * j + 1) ≡ 1 = eqb-true _ 1 (and-left one small e) in
+      rw z (whole-declared (word t (p + 2 * j)) (a (p + 2 * j)) (and-right one small e))
+
+  pub all-whole-fine : {v : Bool} → v ≡ all (wholeAt t p) 12 → v ≡ true → all (λ j. F.declared (exponentFrom t p j)) 12 ≡ true
+  all-whole-fine e q = all-of (λ j. F.declared (exponentFrom t p j)) 12 (λ j h. whole-fine j (all-at (wholeAt t p) 12 j (sym e ∙ q) h))

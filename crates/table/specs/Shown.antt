@@ -1,8 +1,8 @@
 -- Dimensions at a grade, and what private functions of the crate compute.
 use Prim.Native.Nat.{ℕ, _+_, _*_}
-use mathlib.Core.Bool.{Bool, _&&_}
+use mathlib.Core.Bool.{Bool, _&&_, _||_}
 use mathlib.Core.List.{List}
-use lib.Dec.{eqb, leb}
+use lib.Dec.{eqb, ltb, leb}
 use Rattle.laws.specs.Ranges.{below, all}
 use Rattle.dimension.specs.declared.dimensions.Dimensions.{Dimensions}
 use Rattle.rules.specs.Kinds.{Graded}
@@ -31,3 +31,7 @@ sameWord t p w i = eqb (word t (p + i)) (word w i)
 -- the same exponents, which are given, at this grade, and no difference
 unfoldable pub fitsWords : List ℕ → ℕ → List ℕ → ℕ → Bool
 fitsWords t p w g = all (sameWord t p w) 24 && ((eqb (word t (p + 24)) 1 && eqb (word t (p + 25)) g) && leb 65535 (word t (p + 27)))
+
+-- exponent b of those from place p on is a whole number −32,768 to 32,767
+unfoldable pub wholeAt : List ℕ → ℕ → ℕ → Bool
+wholeAt t p b = eqb (word t (p + 2 * b + 1)) 1 && (ltb (word t (p + 2 * b)) 32768 || leb 4294934528 (word t (p + 2 * b)))

@@ -5,8 +5,10 @@ ghost use mathlib.Core.Path.{_≡_};
 ghost use mathlib.Core.Bool.{cond, _||_};
 ghost use Prim.Native.Nat.{_+_, _*_, _<_, _≤_};
 ghost use lib.Dec.{eqb, ltb};
+ghost use lib.ListN.{length};
 ghost use Rattle.laws.specs.Ranges.{all};
 ghost use Rattle.rules.specs.Table as T;
+ghost use Rattle.table.specs.Shown.{wholeAt};
 
 // The index of one of n kinds, or none.
 fn link_fine(w: u32, n: u32) -> bool
@@ -48,13 +50,42 @@ fn marks_fine(t: &[u32], p: usize) -> bool
         & link_fine(word(t, p + 29), n)
 }
 
-// The exponents of a kind whose dimensions are given.
+// Whether exponent b of those from place p on, all of them there, is a whole number in its range: of such a one nothing is to be reduced.
+fn whole_at(t: &[u32], p: usize, b: usize) -> bool
+    requires { ⌜ p + 24 ≤ length (now t) ⌝ }
+    requires { ⌜ b < 12 ⌝ }
+    ensures { λ r. ⌜ r ≡ wholeAt (now (t .entry)) p b ⌝ }
+{
+    let x = t[p + 2 * b];
+    (t[p + 2 * b + 1] == 1) & ((x < 32768) | (4294934528 <= x))
+}
+
+// Whether all twelve are. None of them ends the loop, so that several are looked at at once.
+fn all_whole(t: &[u32], p: usize) -> bool
+    requires { ⌜ p + 24 ≤ length (now t) ⌝ }
+    ensures { λ r. ⌜ r ≡ all (wholeAt (now (t .entry)) p) 12 ⌝ }
+{
+    let mut whole = true;
+    let mut b: usize = 0;
+    while b < 12 {
+        whole = whole & whole_at(t, p, b);
+        b += 1;
+    }
+    whole
+}
+
+// The exponents of a kind whose dimensions are given. Most are whole, which is seen first.
 fn exponents_fine(t: &[u32], p: usize) -> bool
     requires { ⌜ p < 4294967296 ⌝ }
     ensures { λ r. ⌜ r ≡ T.exponentsFine (now (t .entry)) p ⌝ }
 {
     if word(t, p + 24) != 1 {
         return true;
+    }
+    if p + 24 <= t.len() {
+        if all_whole(t, p) {
+            return true;
+        }
     }
     let mut b: usize = 0;
     while b < 12 {
