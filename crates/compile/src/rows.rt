@@ -17,6 +17,7 @@ use error::Answer;
 use error::Error;
 use error::Link;
 use error::Verdict;
+use table::ROWS;
 use table::is_point;
 use table::is_resolved;
 use table::row_of;
@@ -204,11 +205,11 @@ pub(crate) fn check_rows(image: &[u8], t: &[u32], links: &[u16]) -> Answer
     ensures { λ r. ⌜ r ≡ ruledAll (rule.rowRule (catalogIn (now (image .entry)))) (layout.rowCount (now (image .entry))) ⌝ }
 {
     let n = row_count(image);
-    let mut used: usize = 7696;
+    let mut used = ROWS;
     let mut i: u16 = 0;
     while i < n {
         let row = row_at(image, links, i);
-        let answer = check_row(t, &t[7696..used], row, i);
+        let answer = check_row(t, &t[ROWS..used], row, i);
         let verdict = answer.verdict;
         if let Verdict::Refused(e) = verdict {
             return answer;

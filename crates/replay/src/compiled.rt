@@ -8,6 +8,10 @@ use bytes::u32_at;
 use error::Answer;
 use error::Verdict;
 use stored::after;
+use table::KIND;
+use table::KINDS;
+use table::ROW;
+use table::ROWS;
 use table::word;
 ghost use mathlib.Core.Path.{_≡_};
 ghost use Prim.Native.Nat.{_+_, _*_, _<_, _≤_};
@@ -49,7 +53,7 @@ fn are_kinds(s: &[u8], t: &[u32]) -> bool
     let mut k: u16 = 0;
     while k < n {
         let rest = after(s, at);
-        if !is_kind(rest, t, 16 + 32 * k as usize) {
+        if !is_kind(rest, t, KINDS + KIND * k as usize) {
             return false;
         }
         at += kind_size(rest);
@@ -64,13 +68,13 @@ fn is_row(s: &[u8], t: &[u32], i: usize) -> bool
 {
     is_pair(
         t,
-        7696 + 4 * i,
+        ROWS + ROW * i,
         u16_at(s, 10 * i) as u32,
         u16_at(s, 10 * i + 2) as u32,
     )
         & is_pair(
             t,
-            7696 + 4 * i + 2,
+            ROWS + ROW * i + 2,
             u16_at(s, 10 * i + 4) as u32,
             u16_at(s, 10 * i + 6) as u32,
         )

@@ -3,6 +3,7 @@
 mod fine;
 mod fitting;
 mod kinds;
+mod places;
 mod rows;
 mod words;
 
@@ -21,6 +22,16 @@ pub use kinds::kind_count;
 pub use kinds::rate_of;
 pub use kinds::target_of;
 pub use kinds::time;
+pub use places::Head;
+pub use places::KIND;
+pub use places::KINDS;
+pub use places::MARKS;
+pub use places::Marks;
+pub use places::ROW;
+pub use places::ROWS;
+pub use places::head_words;
+pub use places::mark_words;
+pub use places::op_word;
 pub use rows::own_rows;
 pub use rows::row_of;
 pub use words::Exponents;

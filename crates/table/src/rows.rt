@@ -1,4 +1,6 @@
 // Rows in force, four words each: left, operation, right, result.
+use crate::places::ROWS;
+use crate::places::op_word;
 use crate::words::index_or;
 use crate::words::word;
 use dimension::ProductOp;
@@ -9,22 +11,9 @@ ghost use Prim.Native.Nat.{_+_, _-_, _*_, _<_, _≤_};
 ghost use lib.ListN.{length, take, drop};
 ghost use Rattle.laws.specs.Options.{isSome};
 ghost use Rattle.laws.specs.Ranges.{firstFrom};
-ghost use Rattle.rules.specs.Kinds as K;
 ghost use Rattle.rules.specs.Table as T;
 ghost use Rattle.error.specs.Shown.{linked};
 ghost use Rattle.table.specs.Shown.{leftIs, rowFor};
-
-// The word that an operation has in a row.
-fn op_word(op: ProductOp) -> u32
-    ensures { λ v. ⌜ v ≡ K.opWord op ⌝ }
-{
-    match op {
-        ProductOp::Mul => 0,
-        ProductOp::Div => 1,
-        ProductOp::Dot => 2,
-        ProductOp::Wedge => 3,
-    }
-}
 
 // Whether one of the sixteen rows from row `from` on, all of them there, has this left kind. None of them ends the loop, so that several are compared
 // at once.
@@ -117,5 +106,5 @@ fn part(s: &[u32], at: usize, len: usize) -> &[u32]
 pub fn own_rows(table: &[u32]) -> &[u32]
     ensures { λ v. ⌜ now v ≡ T.ownRows (now (table .entry)) ⌝ }
 {
-    part(table, 7696, 4 * word(table, 1) as usize)
+    part(table, ROWS, 4 * word(table, 1) as usize)
 }

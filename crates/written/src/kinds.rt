@@ -5,6 +5,7 @@ use crate::marks::kind_words;
 use crate::words::put;
 use catalog::kind_count;
 use catalog::kind_place;
+use table::KIND;
 ghost use mathlib.Core.Path.{_≡_};
 ghost use Prim.Native.Nat.{_*_, _≤_};
 ghost use lib.ListN.{length, replicate};
@@ -42,7 +43,7 @@ fn kinds_by(
             named[i],
             rates[i],
         );
-        put(&mut out, 32 * i, &w, 32);
+        put(&mut out, KIND * i, &w, KIND);
         k += 1;
     }
     out

@@ -4,9 +4,9 @@ mod kinds;
 mod links;
 mod marks;
 mod rows;
-mod table;
+mod whole;
 mod words;
 
 pub use marks::exponent_words;
-pub use table::Written;
-pub use table::table_words;
+pub use whole::Written;
+pub use whole::table_words;

@@ -6,6 +6,8 @@ use catalog::is_given;
 use dimension::Dimensions;
 use dimension::Rational;
 use dimension::bits32;
+use table::MARKS;
+use table::Marks;
 ghost use mathlib.Core.Path.{_≡_};
 ghost use mathlib.Core.Bool.{cond};
 ghost use Rattle.laws.specs.Options.{isSome};
@@ -63,19 +65,17 @@ fn flag(image: &[u8], p: u32) -> u32
 }
 
 // The last eight words of the kind at p, by its links.
-fn mark_words(image: &[u8], p: u32, difference: u16, target: u16, named: u16, rate: u16) -> [u32; 8]
+fn mark_words(image: &[u8], p: u32, difference: u16, target: u16, named: u16, rate: u16) -> Marks
     ensures { λ r. ⌜ r ≡ marksBy (kindFrom (now (image .entry)) p) difference target named rate ⌝ }
 {
-    [
+    table::mark_words(
         flag(image, p),
         grade_at(image, p) as u32,
         role(difference, named),
-        difference as u32,
-        target as u32,
-        rate as u32,
-        0,
-        0,
-    ]
+        difference,
+        target,
+        rate,
+    )
 }
 
 // The words of the kind at p, by its links.
@@ -93,6 +93,6 @@ pub(crate) fn kind_words(
     let marks = mark_words(image, p, difference, target, named, rate);
     let mut w = [0u32; 32];
     put(&mut w, 0, &exponents, 24);
-    put(&mut w, 24, &marks, 8);
+    put(&mut w, MARKS, &marks, 8);
     w
 }

@@ -6,12 +6,11 @@ use catalog::is_commutative;
 use catalog::op_at;
 use catalog::row_count;
 use catalog::row_place;
-use dimension::ProductOp;
+use table::op_word;
 ghost use mathlib.Core.Path.{_≡_};
 ghost use Prim.Native.Nat.{_≤_};
 ghost use lib.ListN.{length, take, replicate};
 ghost use Rattle.laws.specs.Ranges.{overlay};
-ghost use Rattle.rules.specs.Kinds as K;
 ghost use Rattle.rules.specs.Layout as layout;
 ghost use Rattle.rules.specs.Catalog.{catalogIn, rowFrom};
 ghost use Rattle.rules.specs.Table.{inForce};
@@ -55,18 +54,6 @@ pub(crate) fn row_links(image: &[u8], keys: &[u32]) -> [u16; 600]
         j += 1;
     }
     links
-}
-
-// The word that an operation has in a row.
-fn op_word(op: ProductOp) -> u32
-    ensures { λ v. ⌜ v ≡ K.opWord op ⌝ }
-{
-    match op {
-        ProductOp::Mul => 0,
-        ProductOp::Div => 1,
-        ProductOp::Dot => 2,
-        ProductOp::Wedge => 3,
-    }
 }
 
 // What a row of these kinds enters; where the turned pair counts too, it follows.

@@ -10,4 +10,4 @@ unfolding marksBy
 returns c = cc
 
 pub mark-words-spec : {M : Type 1} → statement M
-mark-words-spec = tie.close (tie.spec (search needs) (search needs) (search needs) (search needs) returns)
+mark-words-spec = tie.close (tie.spec (search needs) (search needs) (search needs) (search needs) (search needs) returns)

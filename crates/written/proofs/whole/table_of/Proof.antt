@@ -1,10 +1,10 @@
--- `written::table::table_of` meets its contract.
+-- `written::whole::table_of` meets its contract.
 -- Assumes nothing.
 use borrow.Author.Needs.{needs}
 use native.Mathlib.Omega.{arith}
 use Rattle.written.proofs.Parts.{table-told}
-use Rattle.written.proofs.table.table_of.Statement.{statement}
-use Rattle.written.proofs.table.table_of.Tie as tie
+use Rattle.written.proofs.whole.table_of.Statement.{statement}
+use Rattle.written.proofs.whole.table_of.Tie as tie
 
 rows-words-requires : tie.Need-rows-words-requires
 rows-words-requires c κs = (omega arith, (omega arith, (search needs, c .before .before .before .row-links .ensures)))

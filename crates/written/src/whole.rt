@@ -9,6 +9,10 @@ use catalog::TIME;
 use catalog::keys_of;
 use catalog::kind_count;
 use catalog::row_count;
+use table::Head;
+use table::KINDS;
+use table::ROW;
+use table::ROWS;
 ghost use mathlib.Core.Path.{_≡_};
 ghost use mathlib.Core.List.{[], _∷_};
 ghost use Prim.Native.Nat.{_/_, _≤_, _<_};
@@ -27,17 +31,17 @@ pub struct Written {
 }
 
 // The first four words; `used` is how many words the rows in force take.
-fn head_words(image: &[u8], keys: &[u32], used: usize) -> [u32; 4]
+fn head_words(image: &[u8], keys: &[u32], used: usize) -> Head
     requires { ⌜ now keys ≡ keysIn (now image) ⌝ }
     requires { ⌜ used ≤ 1600 ⌝ }
     ensures { λ r. ⌜ r ≡ layout.kindCount (now (image .entry)) ∷ used / 4 ∷ indexWord (link (catalogIn (now (image .entry))) (idAt (now (image .entry)) 12)) ∷ indexWord (link (catalogIn (now (image .entry))) (idAt (now (image .entry)) 44)) ∷ [] ⌝ }
 {
-    [
+    table::head_words(
         kind_count(image) as u32,
-        (used / 4) as u32,
-        link_word(image, keys, DIMENSIONLESS) as u32,
-        link_word(image, keys, TIME) as u32,
-    ]
+        (used / ROW) as u32,
+        link_word(image, keys, DIMENSIONLESS),
+        link_word(image, keys, TIME),
+    )
 }
 
 // The three parts as one, each put at its place.
@@ -49,8 +53,8 @@ fn joined(head: &[u32], kinds: &[u32], rows: &[u32]) -> [u32; 9296]
 {
     let mut t = [0u32; 9296];
     put(&mut t, 0, head, 4);
-    put(&mut t, 16, kinds, 7680);
-    put(&mut t, 7696, rows, 1600);
+    put(&mut t, KINDS, kinds, 7680);
+    put(&mut t, ROWS, rows, 1600);
     t
 }
 

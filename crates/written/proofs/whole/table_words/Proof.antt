@@ -1,10 +1,10 @@
--- `written::table::table_words` meets its contract.
+-- `written::whole::table_words` meets its contract.
 -- Assumes nothing.
 use borrow.Author.Needs.{needs}
 use mathlib.Core.Path.{refl}
 use Rattle.written.proofs.Parts.{limits-kept, within-limits, over-limits}
-use Rattle.written.proofs.table.table_words.Statement.{statement}
-use Rattle.written.proofs.table.table_words.Tie as tie
+use Rattle.written.proofs.whole.table_words.Statement.{statement}
+use Rattle.written.proofs.whole.table_words.Tie as tie
 
 table-of-requires : tie.Need-table-of-requires
 table-of-requires c κs = limits-kept _ (c .before .before .kind-count .ensures) (c .before .row-count .ensures) (c .if1 .taken)
