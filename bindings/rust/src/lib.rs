@@ -1,9 +1,10 @@
 //! The proved kind check, called from Rust.
 //!
 //! A [`Catalog`] owns what the library is lent: the compiled table, its rows in force and the list of twins. Every answer is the library's own, told
-//! as an enum; a [`Refusal`] prints its cause in words, and [`report`] has what is printed for an answer.
+//! as an enum; a [`Refusal`] prints its cause in words, and [`report`] has what is printed for an answer. [`lent`] has the calls as they are, for
+//! callers with buffers of their own.
 
-mod ffi;
+pub mod lent;
 mod refusal;
 mod token;
 
@@ -16,8 +17,9 @@ const TWINS: usize = 240;
 const OUT_WORDS: usize = 32;
 const PART_WORDS: usize = 3;
 
-/// An answer's words.
+/// An answer's words. They have room for every answer, so each call with them is true.
 type Out = [u32; OUT_WORDS];
+const NO_ANSWER: Out = [0; OUT_WORDS];
 
 /// Where a part lies: 1 for the image and 0 for the word, its first byte, its length.
 type Part = [usize; PART_WORDS];
@@ -32,10 +34,12 @@ pub enum Term {
 /// What a report prints for a formula's answer: a kind's id as it stands in the image, its padding left off, or the caller's own word for a number,
 /// whole. Empty where the image meets one of the refusals 1 to 4, or the kind is past the end.
 pub fn report<'a>(image: &'a [u8], word: &'a [u8], term: Term) -> &'a [u8] {
-    let [lender, start, length] = match term {
-        Term::Number => ffi::report(image, word, false, 0),
-        Term::Kind(kind) => ffi::report(image, word, true, kind),
+    let mut part: Part = [0; PART_WORDS];
+    match term {
+        Term::Number => lent::report(image, word, false, 0, &mut part),
+        Term::Kind(kind) => lent::report(image, word, true, kind, &mut part),
     };
+    let [lender, start, length] = part;
     let whole = if lender == 1 { image } else { word };
     &whole[start..start + length]
 }
@@ -53,7 +57,8 @@ impl Catalog {
     pub fn compile(image: &[u8]) -> Result<Catalog, Refusal> {
         let mut table = vec![0; TABLE_WORDS];
         let twins = vec![0; TWINS];
-        let out = ffi::compile(image, &mut table);
+        let mut out = NO_ANSWER;
+        lent::compile(image, &mut table, &mut out);
         match told(&out, &twins) {
             Some(refusal) => Err(refusal),
             None => {
@@ -71,15 +76,17 @@ impl Catalog {
 
     /// The kind of left and right combined.
     pub fn combine(&mut self, left: u16, op: Op, right: u16) -> Result<u16, Refusal> {
-        let out = ffi::combine(&self.table, &self.rows, &mut self.twins, op.code(), left, right);
+        let mut out = NO_ANSWER;
+        lent::combine(&self.table, &self.rows, &mut self.twins, op.code(), left, right, &mut out);
         self.kind(&out)
     }
 
     /// The kind of a power.
     pub fn power(&mut self, base: u16, exponent: Exponent) -> Result<u16, Refusal> {
-        let out = match exponent {
-            Exponent::Exact(num, den) => ffi::power(&self.table, &mut self.twins, base, num, den),
-            Exponent::Inexact => ffi::power_inexact(&self.table, &mut self.twins, base),
+        let mut out = NO_ANSWER;
+        match exponent {
+            Exponent::Exact(num, den) => lent::power(&self.table, &mut self.twins, base, num, den, &mut out),
+            Exponent::Inexact => lent::power_inexact(&self.table, &mut self.twins, base, &mut out),
         };
         self.kind(&out)
     }
@@ -92,7 +99,8 @@ impl Catalog {
 
     /// What a formula is, from the bytes of its tokens, 12 each.
     pub fn formula_bytes(&mut self, bytes: &[u8]) -> Result<Term, Refusal> {
-        let out = ffi::formula(&self.table, &self.rows, &mut self.twins, bytes);
+        let mut out = NO_ANSWER;
+        lent::formula(&self.table, &self.rows, &mut self.twins, bytes, &mut out);
         match told(&out, &self.twins) {
             Some(refusal) => Err(refusal),
             None if out[0] == 1 => Ok(Term::Kind(out[1] as u16)),

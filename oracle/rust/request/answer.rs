@@ -2,7 +2,8 @@
 //! and values.
 use crate::limits::flattened;
 use bridgman_core::{
-    DerivationError, Dimensions, Grade, Kind, Op, Operation, ProductOp, QuantityError, Term,
+    DerivationError, Dimensions, Exponent, Grade, Kind, Op, Operation, ProductOp, QuantityError,
+    Term,
 };
 use std::fmt;
 
@@ -22,6 +23,12 @@ pub enum Answer {
     Kind(usize),
     Refused(Refusal),
     Text(String),
+    /// A power that no kind has, with an exponent outside the 32-bit limits:
+    /// the Rust goes on without them, and has no word for it.
+    OverLimits {
+        base: usize,
+        place: usize,
+    },
     /// A question that the Rust has no word for, with the reason.
     NotAsked(String),
 }
@@ -40,6 +47,9 @@ impl fmt::Display for Answer {
             Self::Number => f.write_str("number"),
             Self::Kind(index) => write!(f, "kind {index}"),
             Self::Text(text) => f.write_str(text),
+            Self::OverLimits { .. } => {
+                f.write_str("not-asked the power lies outside the 32-bit limits")
+            }
             Self::NotAsked(reason) => write!(f, "not-asked {reason}"),
             Self::Refused(refusal) => {
                 let place = refusal.place.map_or("?".into(), |place| place.to_string());
@@ -70,6 +80,14 @@ pub fn op_of_code(code: i64) -> Option<Op> {
     [Op::Add, Op::Sub, Op::Mul, Op::Div, Op::Dot, Op::Wedge]
         .into_iter()
         .find(|&op| op_code(op) == code)
+}
+
+/// The code of a power's token.
+pub fn code_of(exponent: &Exponent) -> i64 {
+    match exponent {
+        Exponent::Exact(_) => 8,
+        Exponent::Inexact => 9,
+    }
 }
 
 pub fn product_code(op: ProductOp) -> i64 {
@@ -138,8 +156,7 @@ fn operation_code(operation: &Operation, asked: i64) -> i64 {
         Operation::Scale => 4,
         Operation::DivideScalar => 5,
         Operation::Power(_) if asked == 5 => 5,
-        Operation::Power(bridgman_core::Exponent::Exact(_)) => 8,
-        Operation::Power(bridgman_core::Exponent::Inexact) => 9,
+        Operation::Power(exponent) => code_of(exponent),
         Operation::Abs => 10,
         Operation::Compare => 11,
     }
@@ -182,10 +199,18 @@ fn refused(error: &QuantityError<'_>, asked: i64, place: usize) -> Answer {
         } => graded(dimensions, *grade).map(|values| (45, values)),
         QuantityError::UngradedPower { grade, .. } => Some((46, vec![i64::from(grade.index())])),
         QuantityError::NoPowerKind {
-            dimensions, grade, ..
+            base,
+            dimensions,
+            grade,
+            ..
         } => match graded(dimensions, *grade) {
             Some(values) => Some((47, values)),
-            None => return not_asked("the power lies outside the 32-bit limits"),
+            None => {
+                return Answer::OverLimits {
+                    base: index(*base),
+                    place,
+                }
+            }
         },
         QuantityError::UnresolvedPowerTwin { twins: kinds, .. } => {
             let (count, list) = twins(kinds);

@@ -7,10 +7,15 @@ use bridgman_core::{
     AffineRole, CatalogError, DerivationError, Kind, ProductOp, RateFault, Registry,
 };
 
+/// The registry, or the refusal.
+pub fn registry(catalog: &Catalog) -> Result<Registry, Answer> {
+    Registry::compile(catalog.clone()).map_err(|error| refused(catalog, &error))
+}
+
 pub fn compile(catalog: &Catalog) -> (Answer, Option<Registry>) {
-    match Registry::compile(catalog.clone()) {
+    match registry(catalog) {
         Ok(registry) => (Answer::Text(told(&registry, catalog)), Some(registry)),
-        Err(error) => (refused(catalog, &error), None),
+        Err(answer) => (answer, None),
     }
 }
 
@@ -41,15 +46,19 @@ fn told_kind(kind: Kind<'_>) -> String {
 
 /// A row in force: the pair it is for, what it gives, and the declared row
 /// that put it there.
-struct InForce {
+pub struct InForce {
     declared: usize,
     turned: bool,
-    text: String,
+    pub left: usize,
+    /// 0 to 3, as in a record.
+    pub operation: i64,
+    pub right: usize,
+    pub result: usize,
 }
 
 /// Every pair of kinds is asked for its row, so that nothing in force is
 /// missed; they are told by declared row, the turned pair after the straight.
-fn rows_in_force(registry: &Registry, catalog: &Catalog) -> Vec<InForce> {
+pub fn rows_in_force(registry: &Registry, catalog: &Catalog) -> Vec<InForce> {
     let mut rows = Vec::new();
     for left in registry.kinds() {
         for right in registry.kinds() {
@@ -75,26 +84,28 @@ fn row_in_force(
 ) -> Option<InForce> {
     let declared: usize = left.row_provenance(op, right).ok()??.parse().ok()?;
     let result = left.product(op, right).ok()?;
-    let text = format!(
-        " row {} {} {} {} {declared}",
-        index(left),
-        product_code(op) - 4,
-        index(right),
-        index(result)
-    );
-    let turned = catalog.operations[declared].left != left.id();
     Some(InForce {
         declared,
-        turned,
-        text,
+        turned: catalog.operations[declared].left != left.id(),
+        left: index(left),
+        operation: product_code(op) - 4,
+        right: index(right),
+        result: index(result),
     })
+}
+
+fn told_row(row: &InForce) -> String {
+    format!(
+        " row {} {} {} {} {}",
+        row.left, row.operation, row.right, row.result, row.declared
+    )
 }
 
 fn told(registry: &Registry, catalog: &Catalog) -> String {
     let kinds: String = registry.kinds().map(told_kind).collect();
     let rows = rows_in_force(registry, catalog);
     let count = rows.len();
-    let rows: String = rows.into_iter().map(|row| row.text).collect();
+    let rows: String = rows.iter().map(told_row).collect();
     format!(
         "compiled kinds {} rows {count} time {}{kinds}{rows}",
         registry.kinds().len(),

@@ -1,14 +1,9 @@
 //! Reads requests from standard input, one a line, and answers each with one
 //! line on standard output. oracle/README.md has the syntax.
-mod answer;
-mod compiled;
-mod formula;
-mod image;
-mod limits;
-
-use answer::{not_asked, of_kind, of_term, op_of_code, Answer, Refusal};
 use bridgman_core::pi::{count_pi_groups_exact, pi_groups_exact};
 use bridgman_core::{Dimensions, Exponent, Kind, QuantityError, Registry, Term};
+use oracle::answer::{code_of, not_asked, of_kind, of_term, op_of_code, Answer, Refusal};
+use oracle::{answer, compiled, formula, image, limits};
 use std::io::{BufRead, Write};
 
 fn main() -> std::io::Result<()> {
@@ -105,13 +100,6 @@ fn power(words: &[&str]) -> Option<Option<Exponent>> {
                 .map(Exponent::Exact),
         ),
         _ => None,
-    }
-}
-
-fn code_of(exponent: &Exponent) -> i64 {
-    match exponent {
-        Exponent::Exact(_) => 8,
-        Exponent::Inexact => 9,
     }
 }
 
