@@ -187,10 +187,8 @@ impl Asker<'_> {
     /// Short and damaged words, other rows, indexes and codes out of range:
     /// what the Rust has no word for.
     pub fn ask_amiss(&mut self, over: &Over) {
-        let kinds = over.kinds();
-        if kinds == 0 {
-            return;
-        }
+        // Of no kinds at all, the first is past the end.
+        let kinds = over.kinds().max(1);
         let mut grower = Grower::new(self.random, kinds);
         for _ in 0..12 {
             let (table, rows, twins) = self.amiss(over);
@@ -231,7 +229,7 @@ impl Asker<'_> {
         match self.random.below(8) {
             0 => table.truncate(*self.random.pick(&[0, 1, 15, 16, 7696, 9295])),
             1 => twins = *self.random.pick(&[0, 1, 120, 239]),
-            2 | 3 => rows = damage::lent_rows(self.random, over.kinds()),
+            2 | 3 => rows = damage::lent_rows(self.random, over.kinds().max(1)),
             4 => {}
             _ => damage::damage_table(self.random, &mut table),
         }

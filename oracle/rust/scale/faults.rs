@@ -20,6 +20,9 @@ pub fn with_fault(random: &mut Random, catalog: &Catalog, number: usize) -> Cata
 }
 
 fn put_fault(random: &mut Random, catalog: &mut Catalog, number: usize) {
+    if catalog.kinds.is_empty() {
+        return name_without_kinds(random, catalog);
+    }
     match number {
         10 => empty_id(random, catalog),
         11 => repeated_id(random, catalog),
@@ -39,6 +42,22 @@ fn put_fault(random: &mut Random, catalog: &mut Catalog, number: usize) {
         25 => row_that_misses(random, catalog),
         26 => row_already_derived(random, catalog),
         _ => second_row(random, catalog),
+    }
+}
+
+/// What can be wrong in a catalog of no kinds.
+fn name_without_kinds(random: &mut Random, catalog: &mut Catalog) {
+    let id = fresh_id(random, &[]);
+    match random.below(3) {
+        0 => catalog.dimensionless = id,
+        1 => catalog.time = id,
+        _ => catalog.rows.push(Row {
+            left: id.clone(),
+            right: id.clone(),
+            result: id,
+            operation: random.below(4) as u8,
+            commutative: random.percent(50),
+        }),
     }
 }
 

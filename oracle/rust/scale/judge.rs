@@ -32,6 +32,7 @@ struct Count {
 }
 
 pub struct Judge {
+    first_seed: u64,
     pub seed: u64,
     pub case: u64,
     /// One answer of so many is spoiled; 0 for none.
@@ -51,6 +52,7 @@ const MOST_PRINTED: usize = 10;
 impl Judge {
     pub fn new(seed: u64, spoil: u64) -> Self {
         Self {
+            first_seed: seed,
             seed,
             case: 0,
             spoil,
@@ -122,16 +124,7 @@ impl Judge {
     /// Prints the counts; true where nothing differs that wasn't spoiled, and
     /// everything that was.
     pub fn close(&self) -> bool {
-        println!("asked | answered | against the Rust | against document 01 alone");
-        println!("---|---|---|---");
-        for ((what, number), count) in &self.counts {
-            let answered = if *number == 0 {
-                "given".into()
-            } else {
-                number.to_string()
-            };
-            println!("{what} | {answered} | {} | {}", count.rust, count.text);
-        }
+        self.print_counts();
         let rust: u64 = self.counts.values().map(|count| count.rust).sum();
         let text: u64 = self.counts.values().map(|count| count.text).sum();
         if let (Some((_, text)), true) = (&self.smallest, self.differing.len() > 1) {
@@ -150,12 +143,33 @@ impl Judge {
             );
         }
         println!(
-            "seed {}: {} answers compared ({rust} with the Rust, {text} with document 01 alone), {} differ",
+            "seeds {} to {}: {} answers compared ({rust} with the Rust, {text} with document 01 alone), {} differ",
+            self.first_seed,
             self.seed,
             self.answers,
             self.differing.len()
         );
         let tried = self.spoil == 0 || !self.spoiled.is_empty();
         self.answers > 0 && tried && self.spoiled == self.differing
+    }
+    /// By what was asked and how it was answered; `all` for how it was asked.
+    fn print_counts(&self) {
+        let mut counts: BTreeMap<(&str, String), (u64, u64)> = BTreeMap::new();
+        for (&(what, number), count) in &self.counts {
+            let answered = match number {
+                0 => "  given".into(),
+                number => format!("{number:>2}"),
+            };
+            for line in [answered, "all".into()] {
+                let sums = counts.entry((what, line)).or_default();
+                sums.0 += count.rust;
+                sums.1 += count.text;
+            }
+        }
+        println!("asked | answered | against the Rust | against document 01 alone");
+        println!("---|---|---|---");
+        for ((what, answered), (rust, text)) in counts {
+            println!("{what} | {} | {rust} | {text}", answered.trim());
+        }
     }
 }

@@ -18,6 +18,7 @@ mod words;
 use asked::Asker;
 use judge::Judge;
 use random::Random;
+use records::Catalog;
 use std::process::ExitCode;
 
 /// How much is asked in one case.
@@ -49,13 +50,16 @@ fn plan(random: &mut Random, case: u64) -> Plan {
 
 fn main() -> ExitCode {
     let Some(options) = Options::read() else {
-        eprintln!("usage: scale [--seed N] [--cases N] [--case N] [--spoil N]");
+        eprintln!("usage: scale [--seed N] [--seeds N] [--cases N] [--case N] [--spoil N]");
         return ExitCode::from(2);
     };
     let mut judge = Judge::new(options.seed, options.spoil);
-    for case in options.first..options.end {
-        judge.case = case;
-        run(&mut judge, &mut Random::new(options.seed, case), case);
+    for seed in options.seed..options.seed + options.seeds {
+        judge.seed = seed;
+        for case in options.first..options.end {
+            judge.case = case;
+            run(&mut judge, &mut Random::new(seed, case), case);
+        }
     }
     if judge.close() {
         ExitCode::SUCCESS
@@ -65,7 +69,9 @@ fn main() -> ExitCode {
 }
 
 struct Options {
+    /// The first of so many seeds.
     seed: u64,
+    seeds: u64,
     first: u64,
     end: u64,
     spoil: u64,
@@ -75,6 +81,7 @@ impl Options {
     fn read() -> Option<Self> {
         let mut options = Self {
             seed: 1,
+            seeds: 1,
             first: 0,
             end: 5000,
             spoil: 0,
@@ -84,6 +91,7 @@ impl Options {
             let number: u64 = words.next()?.parse().ok()?;
             match word.as_str() {
                 "--seed" => options.seed = number,
+                "--seeds" => options.seeds = number,
                 "--cases" => (options.first, options.end) = (0, number),
                 "--case" => (options.first, options.end) = (number, number + 1),
                 "--spoil" => options.spoil = number,
@@ -97,10 +105,10 @@ impl Options {
 /// A catalog with its questions, then with each fault in turn, then damaged.
 fn run(judge: &mut Judge, random: &mut Random, case: u64) {
     let plan = plan(random, case);
-    let catalog = if case % 400 == 399 {
-        catalogs::full_catalog(random)
-    } else {
-        catalogs::random_catalog(random, plan.kinds, plan.rows)
+    let catalog = match case % 400 {
+        399 => catalogs::full_catalog(random),
+        100 => Catalog::default(),
+        _ => catalogs::random_catalog(random, plan.kinds, plan.rows),
     };
     let image = catalog.image();
     let mut asker = Asker { judge, random };
