@@ -50,6 +50,21 @@ fn marks_fine(t: &[u32], p: usize) -> bool
         & link_fine(word(t, p + 29), n)
 }
 
+// The same of a kind whose words are all there, so that no place needs a test.
+fn marks_within(t: &[u32], p: usize) -> bool
+    requires { ⌜ p + 32 ≤ length (now t) ⌝ }
+    ensures { λ r. ⌜ r ≡ T.marksFine (now (t .entry)) p ⌝ }
+{
+    let n = word(t, 0);
+    let role = t[p + 26];
+    (t[p + 24] < 2)
+        & (t[p + 25] < 4)
+        & (role < 3)
+        & role_fine(role, t[p + 27], n)
+        & link_fine(t[p + 28], n)
+        & link_fine(t[p + 29], n)
+}
+
 // Whether exponent b of those from place p on, all of them there, is a whole number in its range: of such a one nothing is to be reduced.
 fn whole_at(t: &[u32], p: usize, b: usize) -> bool
     requires { ⌜ p + 24 ≤ length (now t) ⌝ }
@@ -102,6 +117,12 @@ fn kind_fine(t: &[u32], k: usize) -> bool
     ensures { λ r. ⌜ r ≡ T.kindFine (now (t .entry)) k ⌝ }
 {
     let p = 16 + 32 * k;
+    if p + 32 <= t.len() {
+        if !marks_within(t, p) {
+            return false;
+        }
+        return exponents_fine(t, p);
+    }
     if !marks_fine(t, p) {
         return false;
     }
@@ -131,11 +152,37 @@ fn row_fine(t: &[u32], s: &[u32], p: usize) -> bool
     (word(s, p) < n) & (word(s, p + 1) < 4) & (word(s, p + 2) < n) & (word(s, p + 3) < n)
 }
 
+// The same of a row whose words are all there.
+fn row_within(t: &[u32], s: &[u32], p: usize) -> bool
+    requires { ⌜ p + 4 ≤ length (now s) ⌝ }
+    ensures { λ r. ⌜ r ≡ T.rowFine (now (t .entry)) (now (s .entry)) p ⌝ }
+{
+    let n = word(t, 0);
+    (s[p] < n) & (s[p + 1] < 4) & (s[p + 2] < n) & (s[p + 3] < n)
+}
+
+// The m rows of s from place p on, all of them there. None of them ends the loop, so that several are looked at at once.
+fn rows_within(t: &[u32], s: &[u32], p: usize, m: usize) -> bool
+    requires { ⌜ p + 4 * m ≤ length (now s) ⌝ }
+    ensures { λ r. ⌜ r ≡ all (λ i. T.rowFine (now (t .entry)) (now (s .entry)) (p + 4 * i)) m ⌝ }
+{
+    let mut fine = true;
+    let mut i: usize = 0;
+    while i < m {
+        fine = fine & row_within(t, s, p + 4 * i);
+        i += 1;
+    }
+    fine
+}
+
 // The m rows of s from place p on, over the kinds of t.
 fn rows_fine(t: &[u32], s: &[u32], p: usize, m: usize) -> bool
     requires { ⌜ p + 4 * m < 9223372036854775808 ⌝ }
     ensures { λ r. ⌜ r ≡ all (λ i. T.rowFine (now (t .entry)) (now (s .entry)) (p + 4 * i)) m ⌝ }
 {
+    if p + 4 * m <= s.len() {
+        return rows_within(t, s, p, m);
+    }
     let mut i: usize = 0;
     while i < m {
         if !row_fine(t, s, p + 4 * i) {

@@ -9,4 +9,4 @@ use Rattle.table.proofs.fine.kind_fine.Tie as tie
 
 pub kind-fine-spec : {M : Type 1} → statement M
 unfolding T.kindFine
-kind-fine-spec = tie.close (tie.spec (search needs) (search needs) (search needs) (λ c. search (ands, not-true, needs)) (search needs) (λ c. search (ands, not-false, needs)))
+kind-fine-spec = tie.close (tie.spec (search needs) (search needs) (search needs) (λ c κs. search needs) (λ c. search (ands, not-true, needs)) (search needs) (λ c. search (ands, not-false, needs)) (search needs) (λ c. search (ands, not-true, needs)) (search needs) (λ c. search (ands, not-false, needs)))

@@ -1,4 +1,4 @@
--- `table::fine::rows_fine` meets its contract: one after the other.
+-- `table::fine::rows_fine` meets its contract: at once where all are there, else one after the other.
 -- Assumes nothing.
 use borrow.Author.Needs.{needs}
 use Prim.Native.Nat.{_+_, _*_, _≤_, _-_}
@@ -18,4 +18,4 @@ abbrev μ-loop : tie.MeasureT-loop
 μ-loop t s p m i₀ i = m - i
 
 pub rows-fine-spec : {M : Type 1} → statement M
-rows-fine-spec = tie.close (tie.spec Inv-loop μ-loop (λ c. search (alls, needs)) (search needs) (search needs) (search needs) (λ c. search (alls, not-true, needs)) (search needs) (search needs) (λ c. search (alls, not-false, needs)) (λ c. search (alls, needs)))
+rows-fine-spec = tie.close (tie.spec Inv-loop μ-loop (search needs) (search needs) (λ c κs. search needs) (λ c. c .rows-within .ensures) (λ c. search (alls, needs)) (search needs) (search needs) (search needs) (λ c. search (alls, not-true, needs)) (search needs) (search needs) (λ c. search (alls, not-false, needs)) (λ c. search (alls, needs)))
