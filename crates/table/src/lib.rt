@@ -35,5 +35,6 @@ pub use places::op_word;
 pub use rows::own_rows;
 pub use rows::row_of;
 pub use words::Exponents;
+pub use words::index_or;
 pub use words::word;
 pub use words::words_of;

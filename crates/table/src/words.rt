@@ -17,7 +17,7 @@ pub fn word(t: &[u32], i: usize) -> u32
 }
 
 // A word from 65,535 on names no kind; below, it fits 16 bits.
-pub(crate) fn index_or(w: u32) -> Link
+pub fn index_or(w: u32) -> Link
     ensures { λ r. ⌜ r ≡ linked (T.indexOr w) ⌝ }
 {
     if w < 65535 {

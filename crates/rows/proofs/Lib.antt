@@ -1,0 +1,3 @@
+-- A list of row records and its words, and walks of code over a lent list of them.
+mod Words
+mod Lent
