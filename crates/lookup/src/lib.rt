@@ -6,3 +6,4 @@ pub use lone::Exponent;
 pub use lone::combine;
 pub use lone::power;
 pub use twins::list_twins;
+pub use twins::op_of;

@@ -22,7 +22,7 @@ pub(crate) enum Origin {
 }
 
 // The operation whose token has this code.
-fn op_of(code: u8) -> ProductOp
+pub fn op_of(code: u8) -> ProductOp
     ensures { λ v. ⌜ v ≡ opBy code ⌝ }
 {
     match code {

@@ -1,3 +1,4 @@
 -- A list of row records and its words, and walks of code over a lent list of them.
 mod Words
 mod Lent
+mod Stands

@@ -6,13 +6,11 @@ use mathlib.Core.List.{List, [], _∷_}
 use mathlib.Core.Option.{none}
 use native.Mathlib.Omega.{arith}
 use lib.ListN.{length, getD}
-use Rattle.laws.specs.Options.{found}
 use Rattle.laws.specs.Ranges.{first, all}
 use Rattle.laws.proofs.First.{first-next, first-here, first-end}
 use Rattle.laws.proofs.All.{all-next, all-here, all-end}
 use Rattle.dimension.specs.declared.grade.ProductOp.{ProductOp}
 use Rattle.rules.specs.Table.{isRow, rowsOf, indexOr, word, rowFine, areRows}
-use Rattle.error.specs.Shown.{linked}
 use Rattle.rows.specs.declared.Row.{Row}
 use Rattle.rows.specs.Flat.{flat, blank}
 

@@ -1,15 +1,23 @@
 // Rows in force as a list of row records: four numbers a row, as in the words of a table.
 use dimension::ProductOp;
+use error::Answer;
 use error::Link;
+use lookup::combine;
+use lookup::op_of;
 use table::are_rows;
 use table::index_or;
 use table::op_word;
 ghost use mathlib.Core.Path.{_≡_};
 ghost use mathlib.Core.Option.{none};
 ghost use Rattle.rules.specs.Table as T;
+ghost use Rattle.rules.specs.Refusal.{twinsAfter};
+ghost use Rattle.rules.specs.Lookup as lone;
+ghost use Rattle.derive.specs.Shown.{unlinked};
+ghost use Rattle.lookup.specs.Shown.{opBy, placed};
 ghost use Rattle.error.specs.Shown.{linked};
 ghost use mathlib.Core.List.{[], _∷_};
 ghost use Rattle.rows.specs.Flat.{flat};
+ghost use Rattle.rows.specs.Standing.{standing};
 
 pub struct Row {
     pub left: u32,
@@ -74,4 +82,63 @@ pub fn are_rows_in(t: &[u32], rows: &[Row]) -> bool
         i += 1;
     }
     true
+}
+
+// A lookup over no row.
+fn with_none(table: &[u32], twins: &mut [u16], code: u8, l: u16, r: u16) -> Answer
+    ensures { λ v. ⌜ v ≡ placed (lone.combine (now (table .entry)) ([]) (now (twins .entry)) code l r) ⌝ }
+    ensures { λ v. ⌜ now (twins .exit) ≡ twinsAfter (lone.combine (now (table .entry)) ([]) (now (twins .entry)) code l r) (now (twins .entry)) ⌝ }
+{
+    let words = [0u32; 1];
+    combine(table, &words[0..0], twins, code, l, r)
+}
+
+// A lookup over the one row that names k.
+fn with_row(table: &[u32], k: u16, twins: &mut [u16], code: u8, l: u16, r: u16) -> Answer
+    ensures { λ v. ⌜ v ≡ placed (lone.combine (now (table .entry)) (T.rowWords l (opBy code) r k) (now (twins .entry)) code l r) ⌝ }
+    ensures { λ v. ⌜ now (twins .exit) ≡ twinsAfter (lone.combine (now (table .entry)) (T.rowWords l (opBy code) r k) (now (twins .entry)) code l r) (now (twins .entry)) ⌝ }
+{
+    let words = [l as u32, op_word(op_of(code)), r as u32, k as u32];
+    combine(table, &words, twins, code, l, r)
+}
+
+// A lookup over rows of which is known whether they are in range, and what the first for the pair names.
+pub fn combine_by(
+    table: &[u32],
+    fine: bool,
+    named: Link,
+    twins: &mut [u16],
+    code: u8,
+    l: u16,
+    r: u16,
+) -> Answer
+    ensures { λ v. ⌜ v ≡ placed (lone.combine (now (table .entry)) (standing fine (unlinked named) code l r) (now (twins .entry)) code l r) ⌝ }
+    ensures { λ v. ⌜ now (twins .exit) ≡ twinsAfter (lone.combine (now (table .entry)) (standing fine (unlinked named) code l r) (now (twins .entry)) code l r) (now (twins .entry)) ⌝ }
+{
+    if !fine {
+        let words = [0u32; 1];
+        return combine(table, &words, twins, code, l, r);
+    }
+    match named {
+        Link::To(k) => with_row(table, k, twins, code, l, r),
+        Link::Nowhere => with_none(table, twins, code, l, r),
+    }
+}
+
+// Two kinds combined by the code of a token, over a lent list of rows.
+pub fn combine_rows(
+    table: &[u32],
+    rows: &[Row],
+    twins: &mut [u16],
+    code: u8,
+    l: u16,
+    r: u16,
+) -> Answer
+    ensures { λ v. ⌜ v ≡ placed (lone.combine (now (table .entry)) (flat (now (rows .entry))) (now (twins .entry)) code l r) ⌝ }
+    ensures { λ v. ⌜ now (twins .exit) ≡ twinsAfter (lone.combine (now (table .entry)) (flat (now (rows .entry))) (now (twins .entry)) code l r) (now (twins .entry)) ⌝ }
+{
+    let fine = are_rows_in(table, rows);
+    let op = op_of(code);
+    let named = row_in(rows, l, op, r);
+    combine_by(table, fine, named, twins, code, l, r)
 }
