@@ -1,4 +1,5 @@
-// Rows in force as a list of row records: four numbers a row, as in the words of a table.
+// Rows in force as a list of row records: four numbers a row, as in the words of a table. The functions that take such a list are proved by hand, so
+// they are few, and leave the work to functions of plain parameters.
 use dimension::ProductOp;
 use error::Answer;
 use error::Link;
@@ -7,18 +8,23 @@ use lookup::op_of;
 use table::are_rows;
 use table::index_or;
 use table::op_word;
-ghost use mathlib.Core.Path.{_≡_};
+use table::word;
+ghost use mathlib.Core.List.{[], _∷_};
 ghost use mathlib.Core.Option.{none};
-ghost use Rattle.rules.specs.Table as T;
-ghost use Rattle.rules.specs.Refusal.{twinsAfter};
+ghost use mathlib.Core.Path.{_≡_};
+ghost use Prim.Native.Nat.{_<_};
+ghost use lib.ListN.{take};
 ghost use Rattle.rules.specs.Lookup as lone;
+ghost use Rattle.rules.specs.Refusal.{twinsAfter};
+ghost use Rattle.rules.specs.Table as T;
+ghost use Rattle.error.specs.Shown.{linked};
 ghost use Rattle.derive.specs.Shown.{unlinked};
 ghost use Rattle.lookup.specs.Shown.{opBy, placed};
-ghost use Rattle.error.specs.Shown.{linked};
-ghost use mathlib.Core.List.{[], _∷_};
 ghost use Rattle.rows.specs.Flat.{flat};
+ghost use Rattle.rows.specs.Records.{recordAt, records};
 ghost use Rattle.rows.specs.Standing.{standing};
 
+// A row in force.
 pub struct Row {
     pub left: u32,
     pub op: u32,
@@ -141,4 +147,52 @@ pub fn combine_rows(
     let op = op_of(code);
     let named = row_in(rows, l, op, r);
     combine_by(table, fine, named, twins, code, l, r)
+}
+
+// Row i of the words; past their end, a row that is for no pair.
+fn record_at(words: &[u32], i: usize) -> Row
+    requires { ⌜ i < 400 ⌝ }
+    ensures { λ v. ⌜ v ≡ recordAt (now (words .entry)) i ⌝ }
+{
+    if i < words.len() / 4 {
+        return Row {
+            left: word(words, 4 * i),
+            op: word(words, 4 * i + 1),
+            right: word(words, 4 * i + 2),
+            result: word(words, 4 * i + 3),
+        };
+    }
+    Row {
+        left: 65536,
+        op: 0,
+        right: 0,
+        result: 0,
+    }
+}
+
+// The first 400 rows of the words.
+fn records(words: &[u32]) -> [Row; 400]
+    ensures { λ v. ⌜ v ≡ records (now (words .entry)) ⌝ }
+{
+    let mut rows = [Row {
+        left: 0,
+        op: 0,
+        right: 0,
+        result: 0,
+    }; 400];
+    let mut i: usize = 0;
+    while i < 400 {
+        let row = record_at(words, i);
+        rows[i] = row;
+        i += 1;
+    }
+    rows
+}
+
+// The kind that the first row for a pair names, of the first 400 rows of the words.
+pub fn row_among(words: &[u32], l: u16, op: ProductOp, r: u16) -> Link
+    ensures { λ v. ⌜ v ≡ linked (T.rowsOf (take 1600 (now (words .entry))) l op r) ⌝ }
+{
+    let rows = records(words);
+    row_in(&rows, l, op, r)
 }
