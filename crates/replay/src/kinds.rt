@@ -2,7 +2,12 @@
 // for each base.
 use bytes::byte_at;
 use bytes::u16_at;
-use table::MARKS;
+use table::DIFFERENCE;
+use table::FLAG;
+use table::GRADE;
+use table::RATE;
+use table::ROLE;
+use table::TARGET;
 use table::word;
 ghost use mathlib.Core.Path.{_≡_};
 ghost use Prim.Native.Nat.{_<_, _≤_};
@@ -84,18 +89,18 @@ fn are_marks(s: &[u8], t: &[u32], p: usize) -> bool
     requires { ⌜ p < 4194304 ⌝ }
     ensures { λ r. ⌜ r ≡ C.marksAs (now (s .entry)) (now (t .entry)) p ⌝ }
 {
-    (word(t, p + MARKS) == byte_at(s, 2) as u32)
-        & (word(t, p + MARKS + 1) == byte_at(s, 1) as u32)
-        & (word(t, p + MARKS + 2) == byte_at(s, 0) as u32)
+    (word(t, p + FLAG) == byte_at(s, 2) as u32)
+        & (word(t, p + GRADE) == byte_at(s, 1) as u32)
+        & (word(t, p + ROLE) == byte_at(s, 0) as u32)
 }
 
 fn are_links(s: &[u8], t: &[u32], p: usize) -> bool
     requires { ⌜ p < 4194304 ⌝ }
     ensures { λ r. ⌜ r ≡ C.linksAs (now (s .entry)) (now (t .entry)) p ⌝ }
 {
-    (word(t, p + MARKS + 3) == u16_at(s, 4) as u32)
-        & (word(t, p + MARKS + 4) == u16_at(s, 6) as u32)
-        & (word(t, p + MARKS + 5) == u16_at(s, 8) as u32)
+    (word(t, p + DIFFERENCE) == u16_at(s, 4) as u32)
+        & (word(t, p + TARGET) == u16_at(s, 6) as u32)
+        & (word(t, p + RATE) == u16_at(s, 8) as u32)
 }
 
 pub(crate) fn is_kind(s: &[u8], t: &[u32], p: usize) -> bool

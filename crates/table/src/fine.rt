@@ -1,4 +1,13 @@
 // Which words are a table (document 01's 40): counts, indexes, roles, grades and declared exponents in their ranges.
+use crate::places::DIFFERENCE;
+use crate::places::FLAG;
+use crate::places::GRADE;
+use crate::places::KIND;
+use crate::places::KINDS;
+use crate::places::RATE;
+use crate::places::ROLE;
+use crate::places::ROWS;
+use crate::places::TARGET;
 use crate::words::exponent;
 use crate::words::word;
 ghost use mathlib.Core.Path.{_≡_};
@@ -41,13 +50,13 @@ fn marks_fine(t: &[u32], p: usize) -> bool
     ensures { λ r. ⌜ r ≡ T.marksFine (now (t .entry)) p ⌝ }
 {
     let n = word(t, 0);
-    let role = word(t, p + 26);
-    (word(t, p + 24) < 2)
-        & (word(t, p + 25) < 4)
+    let role = word(t, p + ROLE);
+    (word(t, p + FLAG) < 2)
+        & (word(t, p + GRADE) < 4)
         & (role < 3)
-        & role_fine(role, word(t, p + 27), n)
-        & link_fine(word(t, p + 28), n)
-        & link_fine(word(t, p + 29), n)
+        & role_fine(role, word(t, p + DIFFERENCE), n)
+        & link_fine(word(t, p + TARGET), n)
+        & link_fine(word(t, p + RATE), n)
 }
 
 // The same of a kind whose words are all there, so that no place needs a test.
@@ -56,13 +65,13 @@ fn marks_within(t: &[u32], p: usize) -> bool
     ensures { λ r. ⌜ r ≡ T.marksFine (now (t .entry)) p ⌝ }
 {
     let n = word(t, 0);
-    let role = t[p + 26];
-    (t[p + 24] < 2)
-        & (t[p + 25] < 4)
+    let role = t[p + ROLE];
+    (t[p + FLAG] < 2)
+        & (t[p + GRADE] < 4)
         & (role < 3)
-        & role_fine(role, t[p + 27], n)
-        & link_fine(t[p + 28], n)
-        & link_fine(t[p + 29], n)
+        & role_fine(role, t[p + DIFFERENCE], n)
+        & link_fine(t[p + TARGET], n)
+        & link_fine(t[p + RATE], n)
 }
 
 // Whether exponent b of those from place p on, all of them there, is a whole number in its range: of such a one nothing is to be reduced.
@@ -94,7 +103,7 @@ fn exponents_fine(t: &[u32], p: usize) -> bool
     requires { ⌜ p < 4294967296 ⌝ }
     ensures { λ r. ⌜ r ≡ T.exponentsFine (now (t .entry)) p ⌝ }
 {
-    if word(t, p + 24) != 1 {
+    if word(t, p + FLAG) != 1 {
         return true;
     }
     if p + 24 <= t.len() {
@@ -116,7 +125,7 @@ fn kind_fine(t: &[u32], k: usize) -> bool
     requires { ⌜ k < 240 ⌝ }
     ensures { λ r. ⌜ r ≡ T.kindFine (now (t .entry)) k ⌝ }
 {
-    let p = 16 + 32 * k;
+    let p = KINDS + KIND * k;
     if p + 32 <= t.len() {
         if !marks_within(t, p) {
             return false;
@@ -203,7 +212,7 @@ pub fn is_table(t: &[u32]) -> bool
     if !kinds_fine(t, word(t, 0) as usize) {
         return false;
     }
-    rows_fine(t, t, 7696, word(t, 1) as usize)
+    rows_fine(t, t, ROWS, word(t, 1) as usize)
 }
 
 // Whether lent words are rows over the table's kinds.

@@ -4,6 +4,12 @@ use crate::kinds::is_point;
 use crate::kinds::is_resolved;
 use crate::kinds::kind_count;
 use crate::kinds::same_exponents;
+use crate::places::DIFFERENCE;
+use crate::places::FLAG;
+use crate::places::GRADE;
+use crate::places::KIND;
+use crate::places::KINDS;
+use crate::places::ROWS;
 ghost use mathlib.Core.Path.{_≡_};
 ghost use Prim.Native.Nat.{_+_, _≤_, _<_};
 ghost use lib.ListN.{length};
@@ -63,7 +69,7 @@ fn fits_at(t: &[u32], p: usize, w: &[u32], g: u32, pivot: usize) -> bool
     if !same_words(t, p, w) {
         return false;
     }
-    (t[p + 24] == 1) & (t[p + 25] == g) & (65535 <= t[p + 27])
+    (t[p + FLAG] == 1) & (t[p + GRADE] == g) & (65535 <= t[p + DIFFERENCE])
 }
 
 // Whether kind k fits, wherever `pivot` points. In a table that has room for every kind no place needs a test.
@@ -71,8 +77,8 @@ pub fn fits(t: &[u32], k: u16, w: &[u32], g: u32, pivot: usize) -> bool
     ensures { λ r. ⌜ r ≡ K.fits (kindsOf (now (t .entry))) (graded (dimsFrom (now (w .entry)) 0) g) k ⌝ }
 {
     let n = kind_count(t);
-    if (k < n) & (7696 <= t.len()) & (24 <= w.len()) & (pivot < 24) {
-        return fits_at(t, 16 + 32 * k as usize, w, g, pivot);
+    if (k < n) & (ROWS <= t.len()) & (24 <= w.len()) & (pivot < 24) {
+        return fits_at(t, KINDS + KIND * k as usize, w, g, pivot);
     }
     fits_told(t, k, w, g)
 }

@@ -1,4 +1,11 @@
 // What the table says of kind k. Past the count no word of a kind is read, so there is an answer for every k.
+use crate::places::DIFFERENCE;
+use crate::places::FLAG;
+use crate::places::GRADE;
+use crate::places::KIND;
+use crate::places::KINDS;
+use crate::places::RATE;
+use crate::places::TARGET;
 use crate::words::dims_from;
 use crate::words::index_or;
 use crate::words::same_pair;
@@ -31,7 +38,7 @@ fn field(t: &[u32], k: u16, f: usize, d: u32) -> u32
     ensures { λ r. ⌜ r ≡ field (now (t .entry)) k f d ⌝ }
 {
     if k < kind_count(t) {
-        return word(t, 16 + 32 * k as usize + f);
+        return word(t, KINDS + KIND * k as usize + f);
     }
     d
 }
@@ -40,7 +47,7 @@ fn field(t: &[u32], k: u16, f: usize, d: u32) -> u32
 pub fn is_resolved(t: &[u32], k: u16) -> bool
     ensures { λ r. ⌜ r ≡ isSome (T.kindsOf (now (t .entry)) .dims k) ⌝ }
 {
-    field(t, k, 24, 0) == 1
+    field(t, k, FLAG, 0) == 1
 }
 
 // Dimension one for an unresolved kind.
@@ -48,7 +55,7 @@ pub fn dims_of(t: &[u32], k: u16) -> Dimensions
     ensures { λ r. ⌜ r ≡ found (T.kindsOf (now (t .entry)) .dims k) (λ d. d) D.one ⌝ }
 {
     if is_resolved(t, k) {
-        return dims_from(t, 16 + 32 * k as usize);
+        return dims_from(t, KINDS + KIND * k as usize);
     }
     Dimensions::one()
 }
@@ -56,34 +63,34 @@ pub fn dims_of(t: &[u32], k: u16) -> Dimensions
 pub fn grade_of(t: &[u32], k: u16) -> u32
     ensures { λ r. ⌜ r ≡ T.kindsOf (now (t .entry)) .grade k ⌝ }
 {
-    field(t, k, 25, 0)
+    field(t, k, GRADE, 0)
 }
 
 pub fn difference_of(t: &[u32], k: u16) -> Link
     ensures { λ r. ⌜ r ≡ linked (T.kindsOf (now (t .entry)) .difference k) ⌝ }
 {
-    index_or(field(t, k, 27, 65535))
+    index_or(field(t, k, DIFFERENCE, 65535))
 }
 
 // The kind that k is the rate of.
 pub fn target_of(t: &[u32], k: u16) -> Link
     ensures { λ r. ⌜ r ≡ linked (T.kindsOf (now (t .entry)) .rateOf k) ⌝ }
 {
-    index_or(field(t, k, 28, 65535))
+    index_or(field(t, k, TARGET, 65535))
 }
 
 // The kind that is the rate of k.
 pub fn rate_of(t: &[u32], k: u16) -> Link
     ensures { λ r. ⌜ r ≡ linked (T.kindsOf (now (t .entry)) .rate k) ⌝ }
 {
-    index_or(field(t, k, 29, 65535))
+    index_or(field(t, k, RATE, 65535))
 }
 
 // A kind with a difference.
 pub fn is_point(t: &[u32], k: u16) -> bool
     ensures { λ r. ⌜ r ≡ K.point (T.kindsOf (now (t .entry))) k ⌝ }
 {
-    field(t, k, 27, 65535) < 65535
+    field(t, k, DIFFERENCE, 65535) < 65535
 }
 
 pub fn dimensionless(t: &[u32]) -> Link
@@ -127,7 +134,7 @@ fn same_from(t: &[u32], p: usize, w: &[u32]) -> bool
 pub(crate) fn same_exponents(t: &[u32], k: u16, w: &[u32]) -> bool
     ensures { λ r. ⌜ r ≡ D.equal (T.dimsFrom (now (t .entry)) (T.kindPlace k)) (T.dimsFrom (now (w .entry)) 0) ⌝ }
 {
-    let p = 16 + 32 * k as usize;
+    let p = KINDS + KIND * k as usize;
     if p + 24 <= t.len() {
         return same_from(&t[p..p + 24], 0, w);
     }

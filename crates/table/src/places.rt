@@ -5,12 +5,23 @@ ghost use mathlib.Core.Path.{_≡_};
 ghost use mathlib.Core.List.{[], _∷_};
 ghost use Rattle.rules.specs.Kinds as K;
 
-// Kind 0 begins here, and each kind takes so many words, of which those from MARKS on are not its exponents'.
+// Kind 0 begins here, and each kind takes so many words.
 pub const KINDS: usize = 16;
 
 pub const KIND: usize = 32;
 
-pub const MARKS: usize = 24;
+// Of a kind's words, those past its exponents.
+pub const FLAG: usize = 24;
+
+pub const GRADE: usize = 25;
+
+pub const ROLE: usize = 26;
+
+pub const DIFFERENCE: usize = 27;
+
+pub const TARGET: usize = 28;
+
+pub const RATE: usize = 29;
 
 // Row 0 begins here, and each row in force takes so many words.
 pub const ROWS: usize = 7696;

@@ -6,7 +6,7 @@ use catalog::is_given;
 use dimension::Dimensions;
 use dimension::Rational;
 use dimension::bits32;
-use table::MARKS;
+use table::FLAG;
 use table::Marks;
 ghost use mathlib.Core.Path.{_≡_};
 ghost use mathlib.Core.Bool.{cond};
@@ -93,6 +93,6 @@ pub(crate) fn kind_words(
     let marks = mark_words(image, p, difference, target, named, rate);
     let mut w = [0u32; 32];
     put(&mut w, 0, &exponents, 24);
-    put(&mut w, MARKS, &marks, 8);
+    put(&mut w, FLAG, &marks, 8);
     w
 }
