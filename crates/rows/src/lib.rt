@@ -92,8 +92,8 @@ pub fn are_rows_in(t: &[u32], rows: &[Row]) -> bool
 
 // A lookup over no row.
 fn with_none(table: &[u32], twins: &mut [u16], code: u8, l: u16, r: u16) -> Answer
-    ensures { λ v. ⌜ v ≡ placed (lone.combine (now (table .entry)) ([]) (now (twins .entry)) code l r) ⌝ }
-    ensures { λ v. ⌜ now (twins .exit) ≡ twinsAfter (lone.combine (now (table .entry)) ([]) (now (twins .entry)) code l r) (now (twins .entry)) ⌝ }
+    ensures { λ v. ⌜ v ≡ placed (lone.combine (now (table .entry)) [] (now (twins .entry)) code l r) ⌝ }
+    ensures { λ v. ⌜ now (twins .exit) ≡ twinsAfter (lone.combine (now (table .entry)) [] (now (twins .entry)) code l r) (now (twins .entry)) ⌝ }
 {
     let words = [0u32; 1];
     combine(table, &words[0..0], twins, code, l, r)
