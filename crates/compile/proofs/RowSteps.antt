@@ -22,13 +22,13 @@ use Rattle.error.specs.declared.answer.Link.{Link}
 use Rattle.error.specs.declared.answer.Link.the-variants.{To, Nowhere}
 use Rattle.error.specs.declared.cause.Error.{Error}
 use Rattle.error.specs.declared.cause.Error.the-variants as cause
-use Rattle.derive.specs.Shown.{at, derived, resolved}
+use Rattle.derive.specs.Shown.{at, derived, severalOf}
 use Rattle.derive.specs.declared.derivation.Derivation.{Derivation}
 use Rattle.derive.specs.declared.derivation.Ruling.the-variants as ruling
-use Rattle.derive.specs.declared.resolution.Resolved.{Resolved}
-use Rattle.derive.specs.declared.resolution.Resolved.the-variants.{Is, Twins, Nothing}
+use Rattle.derive.specs.declared.resolution.Several.{Several}
+use Rattle.derive.specs.declared.resolution.Several.the-variants as several
 use Rattle.derive.proofs.Derives.{fine-told, refused-told, plain-refusal}
-use Rattle.derive.proofs.Resolves.{is-told, nothing-told, twins-told}
+use Rattle.derive.proofs.Resolves as resolves
 use Rattle.compile.specs.declared.rows.Row.{Row}
 use Rattle.compile.specs.Shown.{ruled}
 use Rattle.compile.specs.Rows.{isNamed, pairFresh, freshIn, rowSeveral, rowFits, rowDerived, rowNamed, rowBy}
@@ -98,18 +98,18 @@ unfit-shown d g i = refl
 
 module _ (K : Kinds) (R : Rows) (x : Row) (i : ℕ) {v : Answer} where
   module _ (g : Graded) where
-    module _ {w : Resolved} (e : w ≡ resolved (rule.resolve K (x .left) (x .op) (x .right) g)) where
-      pub several-is : {k : ℕ} → w ≡ Is k → v ≡ no (cause.DerivedOperationRule k) i → v ≡ ruled i (rowSeveral K R x g)
+    module _ {w : Several} (e : w ≡ severalOf (rule.resolve K (x .left) (x .op) (x .right) g)) where
+      pub several-is : {k : ℕ} → w ≡ several.Is k → v ≡ no (cause.DerivedOperationRule k) i → v ≡ ruled i (rowSeveral K R x g)
       unfolding ruled rowSeveral fine told
-      several-is p h = rw (is-told (rule.resolve K (x .left) (x .op) (x .right) g) p e) h
+      several-is p h = rw (resolves.several-is (rule.resolve K (x .left) (x .op) (x .right) g) p e) h
 
-      pub several-twins : {n : ℕ} → w ≡ Twins n → v ≡ ruled i (pairFresh R x) → v ≡ ruled i (rowSeveral K R x g)
+      pub several-twins : w ≡ several.Many → v ≡ ruled i (pairFresh R x) → v ≡ ruled i (rowSeveral K R x g)
       unfolding rowSeveral
-      several-twins p h = rw (twins-told (rule.resolve K (x .left) (x .op) (x .right) g) p e .1) h
+      several-twins p h = rw (resolves.several-many (rule.resolve K (x .left) (x .op) (x .right) g) p e .1) h
 
-      pub several-none : w ≡ Nothing → v ≡ ruled i (refused (InvalidOperationRule g)) → v ≡ ruled i (rowSeveral K R x g)
+      pub several-none : w ≡ several.Nothing → v ≡ ruled i (refused (InvalidOperationRule g)) → v ≡ ruled i (rowSeveral K R x g)
       unfolding rowSeveral
-      several-none p h = rw (nothing-told (rule.resolve K (x .left) (x .op) (x .right) g) p e) h
+      several-none p h = rw (resolves.several-nothing (rule.resolve K (x .left) (x .op) (x .right) g) p e) h
 
     module _ {b : Bool} (e : b ≡ carries K g (x .result)) where
       pub fits-not : not b ≡ true → v ≡ ruled i (refused (InvalidOperationRule g)) → v ≡ ruled i (rowFits K R x g)

@@ -5,12 +5,12 @@ use catalog::is_commutative;
 use catalog::op_at;
 use catalog::row_count;
 use catalog::row_place;
-use derive::Resolved;
 use derive::Ruling;
+use derive::Several;
 use derive::carries;
 use derive::derive;
 use derive::op_code;
-use derive::resolve;
+use derive::resolve_by;
 use dimension::Dimensions;
 use dimension::ProductOp;
 use error::Answer;
@@ -119,15 +119,15 @@ fn unfit(dims: Dimensions, grade: u32, i: u16) -> Answer
     }
 }
 
-// 26, 27: several kinds must fit.
+// 26, 27: several kinds must fit. The result is one of them, so one other ends the search.
 fn check_several(t: &[u32], rows: &[u32], row: Row, i: u16, dims: Dimensions, grade: u32) -> Answer
     ensures { λ v. ⌜ v ≡ ruled i (rowSeveral (T.kindsOf (now (t .entry))) (T.rowsOf (now (rows .entry))) row (at dims grade)) ⌝ }
 {
     let op = row.op;
-    match resolve(t, row.left, op, row.right, dims, grade) {
-        Resolved::Is(k) => refused_at(Error::DerivedOperationRule(k), i),
-        Resolved::Twins(n) => check_fresh(rows, row, i),
-        Resolved::Nothing => unfit(dims, grade, i),
+    match resolve_by(t, row.left, op, row.right, dims, grade, row.result) {
+        Several::Is(k) => refused_at(Error::DerivedOperationRule(k), i),
+        Several::Many => check_fresh(rows, row, i),
+        Several::Nothing => unfit(dims, grade, i),
     }
 }
 

@@ -8,3 +8,4 @@ mod GradeOver
 mod Seens
 mod Room
 mod Either
+mod Others

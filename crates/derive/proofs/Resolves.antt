@@ -12,9 +12,11 @@ use Rattle.rules.specs.Arithmetic as rule
 use Rattle.error.specs.Shown.{linked}
 use Rattle.error.specs.declared.answer.Link.{Link}
 use Rattle.error.specs.declared.answer.Link.the-variants.{To, Nowhere}
-use Rattle.derive.specs.Shown.{resolved, unlinked}
+use Rattle.derive.specs.Shown.{resolved, severalOf, unlinked}
 use Rattle.derive.specs.declared.resolution.Resolved.{Resolved}
 use Rattle.derive.specs.declared.resolution.Resolved.the-variants.{Is, Twins, Nothing}
+use Rattle.derive.specs.declared.resolution.Several.{Several}
+use Rattle.derive.specs.declared.resolution.Several.the-variants as several
 
 -- ---- a link is read back
 pub unlinked-linked : (o : Option ℕ) → unlinked (linked o) ≡ o
@@ -36,6 +38,22 @@ pub twins-told : {v : Resolved} {n : ℕ} (m : rule.Resolved) → v ≡ Twins n 
 twins-told (rule.is j) p e = let z : true ≡ false = cc in absurd (true≢false z)
 twins-told (rule.twins ks) p e = (ks, refl, cc)
 twins-told rule.nothing p e = let z : true ≡ false = cc in absurd (true≢false z)
+
+-- ---- the same of a resolution without the number of those that fit
+pub several-is : {v : Several} {k : ℕ} (m : rule.Resolved) → v ≡ several.Is k → v ≡ severalOf m → m ≡ rule.is k
+several-is (rule.is j) p e = cc
+several-is (rule.twins ks) p e = cc
+several-is rule.nothing p e = cc
+
+pub several-nothing : {v : Several} (m : rule.Resolved) → v ≡ several.Nothing → v ≡ severalOf m → m ≡ rule.nothing
+several-nothing (rule.is j) p e = cc
+several-nothing (rule.twins ks) p e = cc
+several-nothing rule.nothing p e = refl
+
+pub several-many : {v : Several} (m : rule.Resolved) → v ≡ several.Many → v ≡ severalOf m → (ks : List ℕ) × (m ≡ rule.twins ks)
+several-many (rule.is j) p e = let z : true ≡ false = cc in absurd (true≢false z)
+several-many (rule.twins ks) p e = (ks, refl)
+several-many rule.nothing p e = let z : true ≡ false = cc in absurd (true≢false z)
 
 -- ---- twins are all the kinds that fit
 fitting-twins : (ks js : List ℕ) → rule.fitting ks ≡ rule.twins js → js ≡ ks

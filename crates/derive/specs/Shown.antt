@@ -1,16 +1,16 @@
 -- What the code's answers show of the rules'.
 use Prim.Native.Nat.{ℕ, _*_}
-use mathlib.Core.Bool.{Bool, cond, not}
+use mathlib.Core.Bool.{Bool, cond, not, _&&_}
 use mathlib.Core.List.{List, [], _∷_}
 use mathlib.Core.Option.{Option, some, none}
 use lib.Dec.{eqb, ltb}
 use lib.ListN.{length}
-use Rattle.laws.specs.Options.{found}
+use Rattle.laws.specs.Options.{isSome, found}
 use Rattle.laws.specs.Out.{given, refused}
 use Rattle.laws.specs.Ranges.{first, overlay}
 use Rattle.dimension.specs.Dimension as D
 use Rattle.dimension.specs.declared.dimensions.Dimensions.{Dimensions}
-use Rattle.rules.specs.Kinds.{Kinds, Graded}
+use Rattle.rules.specs.Kinds.{Kinds, Graded, fits}
 use Rattle.rules.specs.Refusal.{Answer}
 use Rattle.rules.specs.Table.{word}
 use Rattle.rules.specs.Arithmetic as rule
@@ -21,8 +21,12 @@ use Rattle.error.specs.declared.answer.Link.{Link}
 use Rattle.error.specs.declared.answer.Link.the-variants.{To, Nowhere}
 use Rattle.derive.specs.declared.derivation.Derivation.{Derivation}
 use Rattle.derive.specs.declared.fits.Seen.{Seen}
+use Rattle.derive.specs.declared.fits.Beside.{Beside}
+use Rattle.derive.specs.declared.fits.Beside.the-variants.{Alone, Others, Unfit}
 use Rattle.derive.specs.declared.resolution.Resolved.{Resolved}
 use Rattle.derive.specs.declared.resolution.Resolved.the-variants.{Is, Twins, Nothing}
+use Rattle.derive.specs.declared.resolution.Several.{Several}
+use Rattle.derive.specs.declared.resolution.Several.the-variants as several
 
 -- dimensions at a grade
 abbrev pub at : Dimensions → ℕ → Graded
@@ -73,6 +77,24 @@ abbrev pub resolved : rule.Resolved → Resolved
 resolved (rule.is k) = Is k
 resolved (rule.twins ks) = Twins (length ks)
 resolved rule.nothing = Nothing
+
+-- without the number of those that fit
+abbrev pub severalOf : rule.Resolved → Several
+severalOf (rule.is k) = several.Is k
+severalOf (rule.twins ks) = several.Many
+severalOf rule.nothing = several.Nothing
+
+abbrev pub uncountedOf : Resolved → Several
+uncountedOf (Is k) = several.Is k
+uncountedOf (Twins n) = several.Many
+uncountedOf Nothing = several.Nothing
+
+-- ---- from kind k: another that fits; whether k fits, and whether others do
+unfoldable pub fitsBeside : Kinds → Graded → ℕ → ℕ → Bool
+fitsBeside K x k j = not (eqb j k) && fits K x j
+
+unfoldable pub besideOf : Kinds → Graded → ℕ → Beside
+besideOf K x k = cond (fits K x k) (cond (isSome (first (fitsBeside K x k) (K .count))) Others Alone) Unfit
 
 abbrev pub unlinked : Link → Option ℕ
 unlinked (To k) = some k

@@ -5,10 +5,11 @@ use table::words_of;
 ghost use mathlib.Core.Path.{_≡_};
 ghost use Prim.Native.Nat.{_≤_, _<_};
 ghost use lib.ListN.{length};
-ghost use Rattle.laws.specs.Ranges.{picked};
+ghost use Rattle.laws.specs.Options.{isSome};
+ghost use Rattle.laws.specs.Ranges.{first, picked};
 ghost use Rattle.rules.specs.Kinds as K;
 ghost use Rattle.rules.specs.Table.{kindsOf, dimsFrom};
-ghost use Rattle.derive.specs.Shown.{at, seen, listed, roomListed, isThere, pivotOf};
+ghost use Rattle.derive.specs.Shown.{at, seen, listed, roomListed, isThere, pivotOf, fitsBeside, besideOf};
 
 // Whether kind k has these dimensions and this grade.
 pub fn carries(t: &[u32], d: Dimensions, g: u32, k: u16) -> bool
@@ -70,6 +71,53 @@ pub(crate) fn candidates(t: &[u32], d: Dimensions, g: u32) -> Seen
     let exponents = words_of(d);
     let w = exponents.words;
     tally(t, &w, g, kind_count(t))
+}
+
+// Whether kind j is another than k, and fits; `first` is the word to compare first.
+fn fits_beside(t: &[u32], w: &[u32], g: u32, first: usize, k: u16, j: u16) -> bool
+    ensures { λ r. ⌜ r ≡ fitsBeside (kindsOf (now (t .entry))) (at (dimsFrom (now (w .entry)) 0) g) k j ⌝ }
+{
+    if j == k {
+        return false;
+    }
+    table::fits(t, j, w, g, first)
+}
+
+// Whether another kind than k, of the first n, fits. It ends at the first that does.
+fn another(t: &[u32], w: &[u32], g: u32, k: u16, n: u16) -> bool
+    ensures { λ r. ⌜ r ≡ isSome (first (fitsBeside (kindsOf (now (t .entry))) (at (dimsFrom (now (w .entry)) 0) g) k) n) ⌝ }
+{
+    let first = pivot(w);
+    let mut j: u16 = 0;
+    while j < n {
+        if fits_beside(t, w, g, first, k, j) {
+            return true;
+        }
+        j += 1;
+    }
+    false
+}
+
+// What is seen of the kinds that fit from one of them, k.
+pub(crate) enum Beside {
+    Alone,
+    Others,
+    Unfit,
+}
+
+// Whether kind k fits, and whether others do.
+pub(crate) fn seen_from(t: &[u32], d: Dimensions, g: u32, k: u16) -> Beside
+    ensures { λ r. ⌜ r ≡ besideOf (kindsOf (now (t .entry))) (at d g) k ⌝ }
+{
+    let exponents = words_of(d);
+    let w = exponents.words;
+    if !table::fits(t, k, &w, g, 0) {
+        return Beside::Unfit;
+    }
+    if another(t, &w, g, k, kind_count(t)) {
+        return Beside::Others;
+    }
+    Beside::Alone
 }
 
 // Lists those of the first n kinds that fit from the front of the lent list.

@@ -13,5 +13,7 @@ pub use fits::carries;
 pub use fits::list_candidates;
 pub use known::neutral_power;
 pub use resolution::Resolved;
+pub use resolution::Several;
 pub use resolution::or_fitting;
 pub use resolution::resolve;
+pub use resolution::resolve_by;

@@ -1,5 +1,7 @@
 // The kind that dimensions and a grade come to: the one that is known, the only one that fits, or that there are several or none.
+use crate::fits::Beside;
 use crate::fits::candidates;
+use crate::fits::seen_from;
 use crate::known::known;
 use dimension::Dimensions;
 use dimension::ProductOp;
@@ -8,7 +10,7 @@ ghost use mathlib.Core.Path.{_≡_};
 ghost use Rattle.rules.specs.Kinds as K;
 ghost use Rattle.rules.specs.Table.{kindsOf};
 ghost use Rattle.rules.specs.Arithmetic as rule;
-ghost use Rattle.derive.specs.Shown.{at, resolved, unlinked};
+ghost use Rattle.derive.specs.Shown.{at, resolved, uncountedOf, severalOf, unlinked};
 
 // A kind; how many fit, where there are several; none.
 pub enum Resolved {
@@ -28,6 +30,52 @@ fn fitting(t: &[u32], d: Dimensions, g: u32) -> Resolved
         return Resolved::Is(seen.last);
     }
     Resolved::Twins(seen.count)
+}
+
+// The same without the number of those that fit.
+pub enum Several {
+    Is(u16),
+    Many,
+    Nothing,
+}
+
+fn uncounted(r: Resolved) -> Several
+    ensures { λ v. ⌜ v ≡ uncountedOf r ⌝ }
+{
+    match r {
+        Resolved::Is(k) => Several::Is(k),
+        Resolved::Twins(n) => Several::Many,
+        Resolved::Nothing => Several::Nothing,
+    }
+}
+
+// Where kind k fits, one other ends the search.
+fn fitting_by(t: &[u32], d: Dimensions, g: u32, k: u16) -> Several
+    ensures { λ v. ⌜ v ≡ severalOf (rule.fitting (K.candidates (kindsOf (now (t .entry))) (at d g))) ⌝ }
+{
+    match seen_from(t, d, g, k) {
+        Beside::Alone => Several::Is(k),
+        Beside::Others => Several::Many,
+        Beside::Unfit => uncounted(fitting(t, d, g)),
+    }
+}
+
+// The kind of `left op right`, or whether several fit; k is a kind that is thought to fit.
+pub fn resolve_by(
+    t: &[u32],
+    l: u16,
+    op: ProductOp,
+    r: u16,
+    d: Dimensions,
+    g: u32,
+    k: u16,
+) -> Several
+    ensures { λ v. ⌜ v ≡ severalOf (rule.resolve (kindsOf (now (t .entry))) l op r (at d g)) ⌝ }
+{
+    match known(t, l, op, r) {
+        Link::To(j) => Several::Is(j),
+        Link::Nowhere => fitting_by(t, d, g, k),
+    }
 }
 
 // The kind that is known already, or else the kinds that fit.
