@@ -111,7 +111,7 @@ pub(crate) fn seen_from(t: &[u32], d: Dimensions, g: u32, k: u16) -> Beside
 {
     let exponents = words_of(d);
     let w = exponents.words;
-    if !table::fits(t, k, &w, g, 0) {
+    if !table::fits_whole(t, k, &w, g) {
         return Beside::Unfit;
     }
     if another(t, &w, g, k, kind_count(t)) {

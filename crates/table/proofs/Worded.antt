@@ -96,11 +96,6 @@ fits-words t w g k a b h e =
 
 -- ---- word by word in code
 module _ (t : List ℕ) (p : ℕ) (w : List ℕ) (g : ℕ) where
-  -- the pivot differs
-  pub words-pivot : (i : ℕ) → i < 24 → (word t (p + i) ≡ word w i → ⊥) → false ≡ fitsWords t p w g
-  unfolding fitsWords sameWord
-  words-pivot i h f = rw (← all-here (sameWord t p w) i 24 h refl (ne-eqb (word t (p + i)) (word w i) f))
-
   pub words-differ : {v : Bool} → v ≡ all (sameWord t p w) 24 → not v ≡ true → false ≡ fitsWords t p w g
   unfolding fitsWords
   words-differ {v} e f = rw (sym e ∙ not-true v f)
@@ -109,13 +104,24 @@ module _ (t : List ℕ) (p : ℕ) (w : List ℕ) (g : ℕ) where
   unfolding fitsWords
   words-marks {v} e f q = rw (sym e ∙ not-false v f) q
 
--- ---- four tests that all hold
-pub all-four : (a b c d : Bool) → (((a && b) && c) && d) ≡ true → (a ≡ true) × (b ≡ true) × (c ≡ true) × (d ≡ true)
-all-four true true true true e = (refl, refl, refl, refl)
-all-four true true true false e = (refl, refl, refl, e)
-all-four true true false d e = (refl, refl, e, cc)
-all-four true false c d e = (refl, e, cc, cc)
-all-four false b c d e = (e, cc, cc, cc)
+-- ---- a word that differs: q is the code's test of it
+past-count : (t : List ℕ) (x : K.Graded) (k : ℕ) → ltb k (kindsIn t) ≡ false → false ≡ K.fits (kindsOf t) x k
+unfolding K.fits K.carries kindsOf below
+past-count t x k e = rw e (sym (and-false (eqb 0 (x .grade))))
+
+pub word-differs : (t w : List ℕ) (g k i : ℕ) {q : Bool} → ((j : ℕ) → word t j < 4294967296) → ((j : ℕ) → word w j < 4294967296) → i < 24 → q ≡ sameWord t (kindPlace k) w i → not q ≡ true → false ≡ K.fits (kindsOf t) (graded (dimsFrom w 0) g) k
+word-differs t w g k i {q} a b h e f = go (ltb k (kindsIn t)) refl
+  where
+    go : (x : Bool) → ltb k (kindsIn t) ≡ x → false ≡ K.fits (kindsOf t) (graded (dimsFrom w 0) g) k
+    go true l = fits-words t w g k a b (ltb-true k (kindsIn t) l) (words-differ t (kindPlace k) w g (all-here (sameWord t (kindPlace k) w) i 24 h e (not-true q f)) refl)
+    go false l = past-count t (graded (dimsFrom w 0) g) k l
+
+-- ---- three tests that all hold
+pub all-three : (a b c : Bool) → ((a && b) && c) ≡ true → (a ≡ true) × (b ≡ true) × (c ≡ true)
+all-three true true true e = (refl, refl, refl)
+all-three true true false e = (refl, refl, e)
+all-three true false c e = (refl, e, cc)
+all-three false b c e = (e, cc, cc)
 
 -- ---- whole exponents are declared ones
 module _ (t : List ℕ) (p : ℕ) (a : (i : ℕ) → word t i < 4294967296) where

@@ -11,6 +11,7 @@ pub use fine::are_rows;
 pub use fine::is_table;
 pub use fitting::carries;
 pub use fitting::fits;
+pub use fitting::fits_whole;
 pub use kinds::difference_of;
 pub use kinds::dimensionless;
 pub use kinds::dims_of;

@@ -12,9 +12,9 @@ use Rattle.derive.proofs.fits.seen_from.Statement.{statement}
 use Rattle.derive.proofs.fits.seen_from.Tie as tie
 
 -- the words stand for the dimensions
-module _ (c : tie.After-fits2) where
-  kind-fits : c .fits2 .result ≡ fits (kindsOf (c .before .before .before .before .before .args .t .now)) (at (c .before .before .before .before .before .args .d) (c .before .before .before .before .before .args .g)) (c .before .before .before .before .before .args .k)
-  kind-fits = rw (c .before .before .before .words-of .ensures .0) at (c .fits2 .ensures)
+module _ (c : tie.After-fits-whole) where
+  kind-fits : c .fits-whole .result ≡ fits (kindsOf (c .before .before .before .before .before .args .t .now)) (at (c .before .before .before .before .before .args .d) (c .before .before .before .before .before .args .g)) (c .before .before .before .before .before .args .k)
+  kind-fits = rw (c .before .before .before .words-of .ensures .0) at (c .fits-whole .ensures)
 
 returns : tie.Need-returns
 returns c = beside-unfit _ _ _ (kind-fits (c .before)) (c .if1 .taken)
