@@ -1,4 +1,4 @@
--- Whether a kind carries dimensions d at grade g, and whether it fits: from what the code's tests said in turn (`carried`). d are those that the
+-- Whether a kind carries dimensions d at grade g: from what the code's tests said in turn (`carried`). d are those that the
 -- words of a list stand for. Assumes nothing.
 use Prim.Native.Nat.{ℕ}
 use mathlib.Core.Path.{_≡_}
@@ -8,7 +8,7 @@ use borrow.Author.Tests.{eq-eqb, ne-eqb, not-true, not-false}
 use Rattle.laws.specs.Options.{isSome}
 use Rattle.dimension.specs.Dimension as D
 use Rattle.dimension.specs.declared.dimensions.Dimensions.{Dimensions}
-use Rattle.rules.specs.Kinds.{point, carries, fits}
+use Rattle.rules.specs.Kinds.{carries}
 use Rattle.rules.specs.Table.{kindsOf, kindPlace, dimsFrom}
 use Rattle.table.specs.Shown.{graded}
 use Rattle.table.proofs.Fields.{resolved-is, unresolved-is}
@@ -27,14 +27,4 @@ module _ (t : List ℕ) (d : Dimensions) (g k : ℕ) where
     unfolding carries
     carries-dims q h = rw (← e, eq-eqb v g f, resolved-is t k p (not-false b q)) h
 
-  -- a point fits nothing; of another kind it is asked whether it carries them
-  module _ {b : Bool} (e : b ≡ point (kindsOf t) k) where
-    pub fits-point : b ≡ true → false ≡ fits (kindsOf t) (graded d g) k
-    unfolding fits
-    fits-point p = rw (← e, p)
-
-    pub fits-other : {u : Bool} → b ≡ false → u ≡ carries (kindsOf t) (graded d g) k → u ≡ fits (kindsOf t) (graded d g) k
-    unfolding fits
-    fits-other p h = rw (← e, p) h
-
-pub ruleset carried = (carries-grade, carries-unresolved, carries-dims, fits-point, fits-other)
+pub ruleset carried = (carries-grade, carries-unresolved, carries-dims)

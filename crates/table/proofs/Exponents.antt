@@ -1,15 +1,15 @@
 -- Exponents in words: two words are equal just where the exponents that they stand for are (`same-ratio`); dimensions read (`dims-end`), compared
 -- (`sames`) and written (`words-next`) pair by pair. Assumes nothing.
-use Prim.Native.Nat.{ℕ, zero, _+_, _-_, _*_, _<_, _≤_}
+use Prim.Native.Nat.{ℕ, _+_, _*_, _<_, _≤_}
 use mathlib.Core.Path.{_≡_, refl, sym, _∙_, ap, ap₂}
 use mathlib.Core.Bool.{Bool, true, false, true≢false, _&&_}
 use mathlib.Core.List.{List, [], _∷_, _++_}
-use native.Mathlib.Nat.{le-antisymm, add-sub-cancel-left}
+use native.Mathlib.Nat.{le-antisymm}
 use native.Mathlib.Numerals.{add-one}
 use native.Mathlib.Omega.{arith}
 use lib.Dec.{eqb}
-use lib.ListN.{length, getD, set, take, drop, length-set}
-use lib.Seq.{getD-set-same, getD-set-other, take-suc, getD-drop, getD-take}
+use lib.ListN.{length, getD, set, take, length-set}
+use lib.Seq.{getD-set-same, getD-set-other, take-suc}
 use borrow.Author.Tests.{eqb-true, eqb-false}
 use Rattle.laws.specs.Ranges.{tab}
 use Rattle.laws.proofs.Tab.{tab-at, tab-same, fill-end}
@@ -144,18 +144,3 @@ module _ (w : List ℕ) (i n m : ℕ) (l : length w ≡ 24) (h : i < 12) where
 
 pub words-end : (w : List ℕ) (i : ℕ) (d : Dimensions) → length (d .powers) ≡ 12 → i ≤ 12 → 12 ≤ i → tab (exponentFrom w 0) i ≡ take i (d .powers) → dimsFrom w 0 ≡ d
 words-end w i d l h k e = sym (dims-end w 0 i d l h k (sym e))
-
--- ---- the exponents from p on, of the 24 words cut out there
-cut-word : (t : List ℕ) (p j : ℕ) → j < 24 → word (take (p + 24 - p) (drop p t)) j ≡ word t (p + j)
-cut-word t p j h = rw (add-sub-cancel-left) (getD-take 24 (drop p t) j 0 h ∙ getD-drop p t j 0)
-
-cut-pair : (t : List ℕ) (p b : ℕ) → b < 12 → exponentFrom (take (p + 24 - p) (drop p t)) 0 b ≡ exponentFrom t p b
-cut-pair t p b h =
-    let x : word t (p + 2 * b) ≡ word (take (p + 24 - p) (drop p t)) (2 * b) = sym (cut-word t p (2 * b) (omega arith)) in
-    let z : p + 2 * b + 1 ≡ p + (2 * b + 1) = omega arith in
-    let y : word t (p + 2 * b + 1) ≡ word (take (p + 24 - p) (drop p t)) (2 * b + 1) = rw z (sym (cut-word t p (2 * b + 1) (omega arith))) in
-    pair-first (take (p + 24 - p) (drop p t)) b x y ∙ sym (pair-at t p b refl refl)
-
-pub part-same : (t : List ℕ) (p : ℕ) (d : Dimensions) {v : Bool} → v ≡ D.equal (dimsFrom (take (p + 24 - p) (drop p t)) 0) d → v ≡ D.equal (dimsFrom t p) d
-unfolding dimsFrom
-part-same t p d e = e ∙ ap (λ (a : Dimensions). D.equal a d) (ap D.dimensions (tab-same _ _ 12 (cut-pair t p)))

@@ -6,7 +6,7 @@ use mathlib.Core.Bool.{Bool, true, false, cond, not, _&&_, _||_, and-false}
 use mathlib.Core.List.{List}
 use mathlib.Core.Option.{some, none}
 use native.Mathlib.Omega.{arith}
-use borrow.Author.Tests.{lt-ltb, ltb-true, ltb-false, le-leb, lt-leb, eqb-true, eqb-false, ne-eqb, not-true, not-false}
+use borrow.Author.Tests.{lt-ltb, le-ltb, ltb-true, ltb-false, le-leb, lt-leb, eqb-true, eqb-false, ne-eqb, not-true, not-false}
 use lib.Dec.{eqb, ltb, leb}
 use lib.ListN.{getD}
 use Rattle.laws.specs.Options.{isSome, found}
@@ -23,7 +23,7 @@ use Rattle.dimension.proofs.ExponentLaws as E
 use Rattle.dimension.proofs.DimensionLaws as L
 use Rattle.rules.specs.Kinds as K
 use Rattle.rules.specs.Table.{word, kindsOf, kindsIn, kindPlace, indexOr, exponentFrom, dimsFrom}
-use Rattle.table.specs.Shown.{graded, sameWord, fitsWords, wholeAt}
+use Rattle.table.specs.Shown.{graded, sameWord, wholeAt}
 use Rattle.table.proofs.Exponents.{pair-same}
 
 module _ (t : List ℕ) (p : ℕ) (w : List ℕ) (a : (i : ℕ) → word t i < 4294967296) (b : (i : ℕ) → word w i < 4294967296) where
@@ -88,40 +88,45 @@ in-turn s true false true d x p = and-false s
 in-turn s true false false d x p = and-false s
 in-turn s false e n d x p = and-false s ∙ sym (ap (λ (b : Bool). n && b) (and-false e) ∙ and-false n)
 
-pub fits-words : (t w : List ℕ) (g k : ℕ) {v : Bool} → ((i : ℕ) → word t i < 4294967296) → ((i : ℕ) → word w i < 4294967296) → k < kindsIn t → v ≡ fitsWords t (kindPlace k) w g → v ≡ K.fits (kindsOf t) (graded (dimsFrom w 0) g) k
-unfolding fitsWords K.fits K.carries kindsOf below
-fits-words t w g k a b h e =
-    e ∙ rw (no-difference (word t (kindPlace k + 27)), lt-ltb k (kindsIn t) h)
-    (in-turn (all (sameWord t (kindPlace k) w) 24) (eqb (word t (kindPlace k + 24)) 1) (eqb (word t (kindPlace k + 25)) g) (not (isSome (indexOr (word t (kindPlace k + 27))))) (dimsFrom t (kindPlace k)) (dimsFrom w 0) (words-same t (kindPlace k) w a b))
+-- n is the count
+pub in-count : (t : List ℕ) (k : ℕ) {n : ℕ} → n ≡ kindsOf t .count → k < n → k < kindsIn t
+unfolding kindsOf
+in-count t k e h = omega (arith, e)
 
--- ---- word by word in code
-module _ (t : List ℕ) (p : ℕ) (w : List ℕ) (g : ℕ) where
-  pub words-differ : {v : Bool} → v ≡ all (sameWord t p w) 24 → not v ≡ true → false ≡ fitsWords t p w g
-  unfolding fitsWords
-  words-differ {v} e f = rw (sym e ∙ not-true v f)
+-- b is whether the exponents are the same, u what flag, grade and difference say
+module _ (t w : List ℕ) (g k : ℕ) (h : k < kindsIn t) {b : Bool} (e : b ≡ D.equal (dimsFrom t (kindPlace k)) (dimsFrom w 0)) where
+  together : (b && ((eqb (word t (kindPlace k + 24)) 1 && eqb (word t (kindPlace k + 25)) g) && leb 65535 (word t (kindPlace k + 27)))) ≡ K.fits (kindsOf t) (graded (dimsFrom w 0) g) k
+  unfolding K.fits K.carries kindsOf below
+  together =
+      rw (no-difference (word t (kindPlace k + 27)), lt-ltb k (kindsIn t) h)
+      (in-turn b (eqb (word t (kindPlace k + 24)) 1) (eqb (word t (kindPlace k + 25)) g) (not (isSome (indexOr (word t (kindPlace k + 27))))) (dimsFrom t (kindPlace k)) (dimsFrom w 0) e)
 
-  pub words-marks : {v u : Bool} → v ≡ all (sameWord t p w) 24 → not v ≡ false → u ≡ ((eqb (word t (p + 24)) 1 && eqb (word t (p + 25)) g) && leb 65535 (word t (p + 27))) → u ≡ fitsWords t p w g
-  unfolding fitsWords
-  words-marks {v} e f q = rw (sym e ∙ not-false v f) q
+  pub exponents-differ : not b ≡ true → false ≡ K.fits (kindsOf t) (graded (dimsFrom w 0) g) k
+  exponents-differ p = rw (not-true b p) at together
+
+  pub marks-say : {u : Bool} → not b ≡ false → u ≡ ((eqb (word t (kindPlace k + 24)) 1 && eqb (word t (kindPlace k + 25)) g) && leb 65535 (word t (kindPlace k + 27))) → u ≡ K.fits (kindsOf t) (graded (dimsFrom w 0) g) k
+  marks-say p q = q ∙ rw (not-false b p) at together
 
 -- ---- a word that differs: q is the code's test of it
-past-count : (t : List ℕ) (x : K.Graded) (k : ℕ) → ltb k (kindsIn t) ≡ false → false ≡ K.fits (kindsOf t) x k
+past-kinds : (t : List ℕ) (x : K.Graded) (k : ℕ) → ltb k (kindsIn t) ≡ false → false ≡ K.fits (kindsOf t) x k
 unfolding K.fits K.carries kindsOf below
-past-count t x k e = rw e (sym (and-false (eqb 0 (x .grade))))
+past-kinds t x k e = rw e (sym (and-false (eqb 0 (x .grade))))
+
+count-is : (t : List ℕ) {n : ℕ} → n ≡ kindsOf t .count → n ≡ kindsIn t
+unfolding kindsOf
+count-is t e = e
+
+pub past-count : (t : List ℕ) (x : K.Graded) (k : ℕ) {n : ℕ} → n ≡ kindsOf t .count → n ≤ k → false ≡ K.fits (kindsOf t) x k
+past-count t x k e h = past-kinds t x k (le-ltb k (kindsIn t) (omega (arith, count-is t e)))
 
 pub word-differs : (t w : List ℕ) (g k i : ℕ) {q : Bool} → ((j : ℕ) → word t j < 4294967296) → ((j : ℕ) → word w j < 4294967296) → i < 24 → q ≡ sameWord t (kindPlace k) w i → not q ≡ true → false ≡ K.fits (kindsOf t) (graded (dimsFrom w 0) g) k
 word-differs t w g k i {q} a b h e f = go (ltb k (kindsIn t)) refl
   where
     go : (x : Bool) → ltb k (kindsIn t) ≡ x → false ≡ K.fits (kindsOf t) (graded (dimsFrom w 0) g) k
-    go true l = fits-words t w g k a b (ltb-true k (kindsIn t) l) (words-differ t (kindPlace k) w g (all-here (sameWord t (kindPlace k) w) i 24 h e (not-true q f)) refl)
-    go false l = past-count t (graded (dimsFrom w 0) g) k l
-
--- ---- three tests that all hold
-pub all-three : (a b c : Bool) → ((a && b) && c) ≡ true → (a ≡ true) × (b ≡ true) × (c ≡ true)
-all-three true true true e = (refl, refl, refl)
-all-three true true false e = (refl, refl, e)
-all-three true false c e = (refl, e, cc)
-all-three false b c e = (e, cc, cc)
+    go true l =
+        let z : false ≡ D.equal (dimsFrom t (kindPlace k)) (dimsFrom w 0) = all-here (sameWord t (kindPlace k) w) i 24 h e (not-true q f) ∙ words-same t (kindPlace k) w a b in
+        exponents-differ t w g k (ltb-true k (kindsIn t) l) z refl
+    go false l = past-kinds t (graded (dimsFrom w 0) g) k l
 
 -- ---- whole exponents are declared ones
 module _ (t : List ℕ) (p : ℕ) (a : (i : ℕ) → word t i < 4294967296) where

@@ -3,7 +3,7 @@ use Prim.Native.Nat.{ℕ, _+_, _*_}
 use mathlib.Core.Bool.{Bool, _&&_, _||_}
 use mathlib.Core.List.{List}
 use lib.Dec.{eqb, ltb, leb}
-use Rattle.laws.specs.Ranges.{below, all}
+use Rattle.laws.specs.Ranges.{below}
 use Rattle.dimension.specs.declared.dimensions.Dimensions.{Dimensions}
 use Rattle.rules.specs.Kinds.{Graded}
 use Rattle.rules.specs.Table.{word, kindsIn, kindPlace}
@@ -27,10 +27,6 @@ rowFor s l o r i = eqb (word s (4 * i)) l && eqb (word s (4 * i + 1)) o && eqb (
 -- ---- the words of a kind that begin at p, compared with those of dimensions
 unfoldable pub sameWord : List ℕ → ℕ → List ℕ → ℕ → Bool
 sameWord t p w i = eqb (word t (p + i)) (word w i)
-
--- the same exponents, which are given, at this grade, and no difference
-unfoldable pub fitsWords : List ℕ → ℕ → List ℕ → ℕ → Bool
-fitsWords t p w g = all (sameWord t p w) 24 && ((eqb (word t (p + 24)) 1 && eqb (word t (p + 25)) g) && leb 65535 (word t (p + 27)))
 
 -- exponent b of those from place p on is a whole number −32,768 to 32,767
 unfoldable pub wholeAt : List ℕ → ℕ → ℕ → Bool

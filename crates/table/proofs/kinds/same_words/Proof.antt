@@ -1,4 +1,4 @@
--- `table::fitting::same_words` meets its contract: a loop that gathers.
+-- `table::kinds::same_words` meets its contract: a loop that gathers.
 -- Assumes nothing.
 use borrow.Author.Needs.{needs}
 use Prim.Native.Nat.{_-_, _≤_}
@@ -7,8 +7,8 @@ use native.Mathlib.Omega.{arith}
 use Rattle.laws.specs.Ranges.{all}
 use Rattle.laws.proofs.All.{everys, every-next}
 use Rattle.table.specs.Shown.{sameWord}
-use Rattle.table.proofs.fitting.same_words.Statement.{statement}
-use Rattle.table.proofs.fitting.same_words.Tie as tie
+use Rattle.table.proofs.kinds.same_words.Statement.{statement}
+use Rattle.table.proofs.kinds.same_words.Tie as tie
 
 abbrev Inv-loop : tie.InvT-loop
 Inv-loop t p w same₀ i₀ same i = (i ≤ 24) × (same ≡ all (sameWord t p w) i)
