@@ -1,5 +1,5 @@
 -- What the code's terms and answers show of the rules.
-use Prim.Native.Nat.{ℕ, zero, suc, _<_}
+use Prim.Native.Nat.{ℕ, zero, suc, _-_, _<_}
 use mathlib.Core.Path.{_≡_}
 use mathlib.Core.Bool.{cond}
 use mathlib.Core.List.{List, [], _∷_}
@@ -95,6 +95,24 @@ lostOf p = record { go = Stop (cause.Malformed p); dims = D.one }
 
 unfoldable pub pushedOf : ℕ → ℕ → Answer → Next
 pushedOf d p a = cond (ltb d 32) (landedOf d a) (lostOf p)
+
+-- one term taken, and two
+unfoldable pub oneOf : ℕ → ℕ → Answer → Next
+oneOf d p a = cond (ltb 0 d) (landedOf (d - 1) a) (lostOf p)
+
+unfoldable pub twoOf : ℕ → ℕ → Answer → Next
+twoOf d p a = cond (ltb 1 d) (landedOf (d - 2) a) (lostOf p)
+
+-- what a token does at a depth and place to the two terms on top: `steps` says that it is the rules' step
+unfoldable pub nextBy : Kinds → Rows → Token → ℕ → ℕ → Term → Term → Next
+nextBy K R token.Number d p x y = pushedOf d p (made (given rule.Number))
+nextBy K R (token.Kind k) d p x y = pushedOf d p (made (rule.kindTerm K k))
+nextBy K R (token.Exact e) d p x y = oneOf d p (made (rule.unaryTerm K (rule.exact e) (termOf y)))
+nextBy K R token.Inexact d p x y = oneOf d p (made (rule.unaryTerm K rule.inexact (termOf y)))
+nextBy K R token.Absolute d p x y = oneOf d p (made (rule.unaryTerm K rule.absolute (termOf y)))
+nextBy K R (token.Combine code) d p x y = twoOf d p (made (binaryBy K R code (termOf x) (termOf y)))
+nextBy K R token.Compare d p x y = twoOf d p (made (binaryBy K R 11 (termOf x) (termOf y)))
+nextBy K R token.Unreadable d p x y = lostOf p
 
 -- a step as the code tells it: the terms then held, or the refusal with its dimensions
 pub data Went : Type 0 where

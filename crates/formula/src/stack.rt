@@ -11,11 +11,11 @@ use error::Error;
 use error::Verdict;
 use tokens::Token;
 ghost use mathlib.Core.Path.{_≡_};
-ghost use Prim.Native.Nat.{_<_, _≤_};
-ghost use lib.ListN.{set};
+ghost use Prim.Native.Nat.{_-_};
+ghost use lib.ListN.{length};
 ghost use Rattle.rules.specs.Formula as rule;
 ghost use Rattle.rules.specs.Table.{kindsOf, rowsOf};
-ghost use Rattle.formula.specs.Shown.{unaryOf, binaryBy, stackOf, landedOf, lostOf, pushedOf, Stepped, stepBy};
+ghost use Rattle.formula.specs.Shown.{made, termOf, unaryOf, binaryBy, landedOf, lostOf, pushedOf, oneOf, twoOf, nextBy};
 
 // What a step does: it puts a term over the first `at` terms, or the run stops.
 pub(crate) enum Go {
@@ -29,13 +29,21 @@ pub(crate) struct Next {
     pub dims: Dimensions,
 }
 
-// The stack with t at this index.
-pub(crate) fn put(mut stack: [Term; 32], at: usize, t: Term) -> [Term; 32]
-    requires { ⌜ at < 32 ⌝ }
-    ensures { λ r. ⌜ r ≡ set stack at t ⌝ }
+// The stack that a run begins with. Of its terms none is held.
+pub(crate) fn empty() -> [Term; 32]
+    ensures { λ r. ⌜ length r ≡ 32 ⌝ }
 {
-    stack[at] = t;
-    stack
+    [Term::Number; 32]
+}
+
+// The place n under the depth, where the n-th term from the top is held; 0 where none is.
+pub(crate) fn under(depth: usize, n: usize) -> usize
+    ensures { λ r. ⌜ r ≡ depth - n ⌝ }
+{
+    if n <= depth {
+        return depth - n;
+    }
+    0
 }
 
 // A term that was made is put over the first `at`; a refusal stops the run. That a check passed is told of no term: it is taken as a number.
@@ -85,13 +93,11 @@ fn pushed(depth: usize, place: usize, a: Answer) -> Next
 }
 
 // A power or the absolute value takes the top term.
-fn unary_step(t: &[u32], stack: [Term; 32], depth: usize, place: usize, u: Unary) -> Next
-    requires { ⌜ depth ≤ 32 ⌝ }
-    ensures { λ r. ⌜ Stepped stack place (rule.withOne (rule.unaryTerm (kindsOf (now (t .entry))) (unaryOf u)) (stackOf stack depth)) r ⌝ }
+fn unary_step(t: &[u32], top: Term, depth: usize, place: usize, u: Unary) -> Next
+    ensures { λ r. ⌜ r ≡ oneOf depth place (made (rule.unaryTerm (kindsOf (now (t .entry))) (unaryOf u) (termOf top))) ⌝ }
 {
     if 0 < depth {
-        let x = stack[depth - 1];
-        return landed(depth - 1, unary_term(t, u, x));
+        return landed(depth - 1, unary_term(t, u, top));
     }
     lost(place)
 }
@@ -100,42 +106,40 @@ fn unary_step(t: &[u32], stack: [Term; 32], depth: usize, place: usize, u: Unary
 fn binary_step(
     t: &[u32],
     rows: &[u32],
-    stack: [Term; 32],
+    left: Term,
+    top: Term,
     depth: usize,
     place: usize,
     code: u8,
 ) -> Next
-    requires { ⌜ depth ≤ 32 ⌝ }
-    ensures { λ r. ⌜ Stepped stack place (rule.withTwo (binaryBy (kindsOf (now (t .entry))) (rowsOf (now (rows .entry))) code) (stackOf stack depth)) r ⌝ }
+    ensures { λ r. ⌜ r ≡ twoOf depth place (made (binaryBy (kindsOf (now (t .entry))) (rowsOf (now (rows .entry))) code (termOf left) (termOf top))) ⌝ }
 {
     if 1 < depth {
-        let x = stack[depth - 2];
-        let y = stack[depth - 1];
-        return landed(depth - 2, binary_term(t, rows, code, x, y));
+        return landed(depth - 2, binary_term(t, rows, code, left, top));
     }
     lost(place)
 }
 
-// One token, which stands at this place.
+// One token, which stands at this place; `top` is the top term, `left` the one below, where so many are held.
 pub(crate) fn step(
     t: &[u32],
     rows: &[u32],
-    stack: [Term; 32],
+    left: Term,
+    top: Term,
     depth: usize,
     place: usize,
     token: Token,
 ) -> Next
-    requires { ⌜ depth ≤ 32 ⌝ }
-    ensures { λ r. ⌜ Stepped stack place (stepBy (kindsOf (now (t .entry))) (rowsOf (now (rows .entry))) token (stackOf stack depth)) r ⌝ }
+    ensures { λ r. ⌜ r ≡ nextBy (kindsOf (now (t .entry))) (rowsOf (now (rows .entry))) token depth place left top ⌝ }
 {
     match token {
         Token::Number => pushed(depth, place, number()),
         Token::Kind(k) => pushed(depth, place, kind_term(t, k)),
-        Token::Exact(e) => unary_step(t, stack, depth, place, Unary::Exact(e)),
-        Token::Inexact => unary_step(t, stack, depth, place, Unary::Inexact),
-        Token::Absolute => unary_step(t, stack, depth, place, Unary::Absolute),
-        Token::Combine(code) => binary_step(t, rows, stack, depth, place, code),
-        Token::Compare => binary_step(t, rows, stack, depth, place, 11),
+        Token::Exact(e) => unary_step(t, top, depth, place, Unary::Exact(e)),
+        Token::Inexact => unary_step(t, top, depth, place, Unary::Inexact),
+        Token::Absolute => unary_step(t, top, depth, place, Unary::Absolute),
+        Token::Combine(code) => binary_step(t, rows, left, top, depth, place, code),
+        Token::Compare => binary_step(t, rows, left, top, depth, place, 11),
         Token::Unreadable => lost(place),
     }
 }

@@ -1,7 +1,8 @@
 // The run over a formula's tokens.
 use crate::stack::Go;
-use crate::stack::put;
+use crate::stack::empty;
 use crate::stack::step;
+use crate::stack::under;
 use crate::terms::Term;
 use error::Answer;
 use error::Error;
@@ -48,18 +49,19 @@ fn walked(t: &[u32], rows: &[u32], bytes: &[u8]) -> Answer
     ensures { λ r. ⌜ r ≡ termed (ending (rule.walk (rule.terms (kindsOf (now (t .entry))) (rowsOf (now (rows .entry)))) (tokensIn (now (bytes .entry))) 0 [])) ⌝ }
 {
     let n = token_count(bytes);
-    let mut stack = [Term::Number; 32];
+    let mut stack = empty();
     let mut depth: usize = 0;
     let mut k: usize = 0;
     while k < n {
         let place = k;
         k += 1;
-        let x = step(t, rows, stack, depth, place, token_at(bytes, place));
+        let top = stack[under(depth, 1)];
+        let left = stack[under(depth, 2)];
+        let x = step(t, rows, left, top, depth, place, token_at(bytes, place));
         let go = x.go;
         match go {
             Go::Put(at, term) => {
-                let next = put(stack, at, term);
-                stack = next;
+                stack[at] = term;
                 depth = at + 1;
             }
             Go::Stop(e) => {

@@ -6,4 +6,4 @@ use Rattle.formula.proofs.stack.binary_step.Statement.{statement}
 use Rattle.formula.proofs.stack.binary_step.Tie as tie
 
 pub binary-step-spec : {M : Type 1} → statement M
-binary-step-spec = tie.close (tie.spec (search needs) (search needs) (search needs) (search needs) (search needs) (search needs) (search needs) (search needs) (search needs) (λ c. search (takes, needs)) (search needs) (λ c. search (takes, needs)))
+binary-step-spec = tie.close (tie.spec (search needs) (search needs) (search needs) (λ c. search (takes, needs)) (search needs) (λ c. search (takes, needs)))
