@@ -6,14 +6,17 @@ use native.Mathlib.Decide.{decLe}
 use native.Mathlib.Omega.{arith}
 use borrow.Author.Tests.{ltb-true, leb-true}
 use lib.Dec.{ltb, leb}
-use lib.IntN.{ℤ, pos, negsuc, natAbs}
+use lib.IntN.{ℤ, pos, negsuc, natAbs, _+ℤ_, _-ℤ_}
 use mir.Syntax.{w32}
 use mir.Val.{SFits}
 use Rattle.dimension.specs.Integer.{bits32, twos, up}
-use Rattle.dimension.specs.Fraction.{ratio, declared}
-use Rattle.dimension.proofs.Signs.{twos-low, twos-high}
+use Rattle.dimension.specs.Fraction.{ratio, sum, difference, declared}
+use Rattle.dimension.specs.declared.rational.Ratio.the-variants.{Is}
+use Rattle.dimension.proofs.Signs.{fits-small, twos-low, twos-high}
+use Rattle.dimension.proofs.Integers.{size-sum, size-difference}
+use Rattle.dimension.proofs.Whole as W
 use Rattle.dimension.proofs.Whole.{gcd-one}
-use Rattle.dimension.proofs.ExponentLaws.{told-declared}
+use Rattle.dimension.proofs.ExponentLaws.{told-declared, declared-told}
 
 -- 32 bits hold the bits of a number, and it is what they stand for
 pub bits-below : (x : ℤ) → SFits w32 x → bits32 x < 4294967296
@@ -56,7 +59,33 @@ whole-declared x h e = go (ltb x 32768) refl
         let l = leb-true 4294934528 x u in
         rw (← twos-high 2147483648 x (4294967295 - x) (omega arith) (omega arith)) (whole (negsuc (4294967295 - x)) (omega arith) (omega arith))
 
--- and fits in a signed number of 32 bits
+-- two such numbers: their sum and difference, and that these fit
+module _ (x y : ℕ) (h : x < 4294967296) (k : y < 4294967296) (p : (ltb x 32768 || leb 4294934528 x) ≡ true) (q : (ltb y 32768 || leb 4294934528 y) ≡ true) where
+  left : natAbs (twos 2147483648 x) ≤ 32768
+  left = declared-told (ratio (twos 2147483648 x) 1) (whole-declared x h p) .num
+
+  right : natAbs (twos 2147483648 y) ≤ 32768
+  right = declared-told (ratio (twos 2147483648 y) 1) (whole-declared y k q) .num
+
+  sum-small : natAbs (twos 2147483648 x +ℤ twos 2147483648 y) ≤ 2147483647
+  sum-small = omega (arith, left, right, size-sum (twos 2147483648 x) (twos 2147483648 y))
+
+  difference-small : natAbs (twos 2147483648 x -ℤ twos 2147483648 y) ≤ 2147483647
+  difference-small = omega (arith, left, right, size-difference (twos 2147483648 x) (twos 2147483648 y))
+
+  pub whole-sum-fits : SFits w32 (twos 2147483648 x +ℤ twos 2147483648 y)
+  whole-sum-fits = fits-small _ sum-small
+
+  pub whole-difference-fits : SFits w32 (twos 2147483648 x -ℤ twos 2147483648 y)
+  whole-difference-fits = fits-small _ difference-small
+
+  pub whole-sum : sum (ratio (twos 2147483648 x) 1) (ratio (twos 2147483648 y) 1) ≡ Is (ratio (twos 2147483648 x +ℤ twos 2147483648 y) 1)
+  whole-sum = sym (W.whole-in _ sum-small ∙ W.whole-sum (ratio (twos 2147483648 x) 1) (ratio (twos 2147483648 y) 1) refl refl)
+
+  pub whole-difference : difference (ratio (twos 2147483648 x) 1) (ratio (twos 2147483648 y) 1) ≡ Is (ratio (twos 2147483648 x -ℤ twos 2147483648 y) 1)
+  whole-difference = sym (W.whole-in _ difference-small ∙ W.whole-difference (ratio (twos 2147483648 x) 1) (ratio (twos 2147483648 y) 1) refl refl)
+
+-- what so many bits stand for fits in a signed number of 32
 pub twos-fits : (half x : ℕ) → half ≤ 2147483648 → x < half + half → SFits w32 (twos half x)
 twos-fits half x l h = go (decLe half x)
   where

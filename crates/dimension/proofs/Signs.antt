@@ -12,7 +12,7 @@ use lib.Signed.{mag, ltZ, nonNeg}
 use mir.Syntax.{w32, w64}
 use mir.Val.{Fits, SFits, ofZ}
 use Rattle.dimension.specs.Integer.{eqZ, up, down, signed, bits32, twos}
-use Rattle.dimension.proofs.Integers.{is-down, size-neg, size-sum, size-difference, size-product}
+use Rattle.dimension.proofs.Integers.{is-up, is-down, size-neg, size-sum, size-difference, size-product}
 
 -- ---- what fits
 -- a number of 32 bits is one of 64
@@ -33,6 +33,10 @@ size-fits (negsuc n) h = omega arith
 -- a number of no more than 2 ^ 62 has 64 bits
 fits-size : (x : ℤ) → natAbs x ≤ 4611686018427387904 → SFits w64 x
 fits-size x h = record { sfits = omega (arith, mag-size x) }
+
+-- and one of no more than 2 ^ 31 - 1 has 32
+pub fits-small : (x : ℤ) → natAbs x ≤ 2147483647 → SFits w32 x
+fits-small x h = record { sfits = omega (arith, mag-size x) }
 
 pub wide-neg : (x : ℤ) → SFits w32 x → SFits w64 (negℤ x)
 wide-neg x h = fits-size (negℤ x) (omega (arith, size-neg x, size-fits x h))
@@ -116,13 +120,22 @@ one-test (pos n) d = refl
 one-test (negsuc n) zero = refl
 one-test (negsuc n) (suc d) = simp (ne-eqb 0 (suc d) (λ e. omega arith))
 
-pub bits-below : (x : ℤ) → 0 < down x → 4294967295 - (down x - 1) ≡ bits32 x
-bits-below (pos n) h = absurd (omega arith)
-bits-below (negsuc n) h = omega arith
+-- a number below zero and 2 ^ 32 are the bits of the number, and any other is its own bits
+pub bits-below : (x : ℤ) → ltZ x (pos 0) ≡ true → SFits w32 x → x +ℤ pos 4294967296 ≡ pos (bits32 x)
+bits-below (pos n) e h = absurd (never n e)
+bits-below (negsuc n) e h = is-up 4294967296 (suc n) (4294967295 - n) (omega arith)
 
-pub bits-above : (x : ℤ) → down x ≤ 0 → up x ≡ bits32 x
-bits-above (pos n) h = refl
-bits-above (negsuc n) h = absurd (omega arith)
+pub bits-above : (x : ℤ) → ltZ x (pos 0) ≡ false → natAbs x ≡ bits32 x
+bits-above (pos n) e = refl
+bits-above (negsuc n) e = absurd (true≢false e)
+
+pub bits-fit : (x : ℤ) → SFits w32 x → Fits w32 (bits32 x)
+bits-fit (pos n) h = record { fits = omega arith }
+bits-fit (negsuc n) h = record { fits = omega arith }
+
+pub bits-wide : (x : ℤ) → SFits w32 x → SFits w64 (pos (bits32 x))
+bits-wide (pos n) h = record { sfits = omega arith }
+bits-wide (negsuc n) h = record { sfits = omega arith }
 
 pub less-one : (k : ℕ) → negℤ (pos k) -ℤ pos 1 ≡ negsuc k
 less-one zero = refl

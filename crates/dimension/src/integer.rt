@@ -110,6 +110,9 @@ pub fn signed32(bits: u32) -> i32
 pub fn bits32(x: i32) -> u32
     ensures { λ r. ⌜ r ≡ I.bits32 x ⌝ }
 {
-    let d = down(x);
-    if 0 < d { 4294967295 - (d - 1) } else { up(x) }
+    if x < 0 {
+        (x as i64 + 4294967296) as u32
+    } else {
+        x as u32
+    }
 }
