@@ -12,7 +12,7 @@ use Rattle.rules.specs.Formula.{Term}
 use Rattle.rules.specs.Call.{call, formulaIn}
 use Rattle.error.specs.declared.answer.Answer.{Answer}
 use Rattle.error.specs.declared.cause.Error.the-variants as cause
-use Rattle.derive.specs.Shown.{roomListed}
+use Rattle.fitting.specs.Shown.{roomListed}
 use Rattle.registry.specs.Shown.{no}
 use Rattle.lookup.specs.Shown.{nameOf, twinsOf}
 use Rattle.formula.specs.Shown.{termed}

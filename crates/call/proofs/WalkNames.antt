@@ -17,7 +17,7 @@ use Rattle.rules.specs.Arithmetic as arithmetic
 use Rattle.rules.specs.Formula as rule
 use Rattle.rules.specs.Token.{tokensIn, goodLength}
 use Rattle.rules.specs.Call.{ending, formulaIn}
-use Rattle.derive.specs.Shown.{roomListed}
+use Rattle.fitting.specs.Shown.{roomListed}
 use Rattle.lookup.specs.Shown.{named, nameOf, twinsOf}
 use Rattle.lookup.proofs.NamedTwins.{Names, names-next, if-names, indexed-names, agree-names, combine-names, power-names}
 use Rattle.formula.specs.Shown.{termed}

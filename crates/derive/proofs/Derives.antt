@@ -18,8 +18,9 @@ use Rattle.rules.specs.Arithmetic as rule
 use Rattle.error.specs.Shown.{errorOf, besides}
 use Rattle.error.specs.declared.cause.Error.{Error}
 use Rattle.error.specs.declared.cause.Error.the-variants as cause
+use Rattle.fitting.specs.Shown.{at}
 use Rattle.derive.specs.declared.derivation.Ruling.the-variants.{Fine, Refused}
-use Rattle.derive.specs.Shown.{at, dimsAt, derived, givenAs, refusedAs}
+use Rattle.derive.specs.Shown.{dimsAt, derived, givenAs, refusedAs}
 use Rattle.derive.specs.declared.derivation.Derivation.{Derivation}
 
 -- ---- told: v is what a call returned

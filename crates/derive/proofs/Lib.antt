@@ -5,7 +5,5 @@ pub mod Derives
 pub mod Resolves
 -- on the way there
 mod GradeOver
-mod Seens
-mod Room
 mod Either
-mod Others
+mod Fittings

@@ -1,7 +1,6 @@
 // Which kind `left op right` is, from dimensions and grade: the derivation, and the kind that it comes to. All is read from the table's words, for
 // every list of words.
 mod derivation;
-mod fits;
 mod known;
 mod resolution;
 
@@ -9,8 +8,6 @@ pub use derivation::Derivation;
 pub use derivation::Ruling;
 pub use derivation::derive;
 pub use derivation::op_code;
-pub use fits::carries;
-pub use fits::list_candidates;
 pub use known::neutral_power;
 pub use resolution::Resolved;
 pub use resolution::Several;

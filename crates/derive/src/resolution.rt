@@ -1,16 +1,17 @@
 // The kind that dimensions and a grade come to: the one that is known, the only one that fits, or that there are several or none.
-use crate::fits::Beside;
-use crate::fits::candidates;
-use crate::fits::seen_from;
 use crate::known::known;
 use dimension::Dimensions;
 use dimension::ProductOp;
 use error::Link;
+use fitting::Beside;
+use fitting::candidates;
+use fitting::seen_from;
 ghost use mathlib.Core.Path.{_≡_};
 ghost use Rattle.rules.specs.Kinds as K;
 ghost use Rattle.rules.specs.Table.{kindsOf};
 ghost use Rattle.rules.specs.Arithmetic as rule;
-ghost use Rattle.derive.specs.Shown.{at, resolved, uncountedOf, severalOf, unlinked};
+ghost use Rattle.fitting.specs.Shown.{at};
+ghost use Rattle.derive.specs.Shown.{resolved, uncountedOf, severalOf, unlinked};
 
 // A kind; how many fit, where there are several; none.
 pub enum Resolved {

@@ -15,7 +15,8 @@ use Rattle.rules.specs.Arithmetic as rule
 use Rattle.error.specs.declared.cause.Error.{Error}
 use Rattle.error.specs.declared.answer.Verdict.{Verdict}
 use Rattle.error.specs.declared.answer.Verdict.the-variants as verdict
-use Rattle.derive.specs.Shown.{at, dimsAt, derived, roomListed}
+use Rattle.fitting.specs.Shown.{at, roomListed}
+use Rattle.derive.specs.Shown.{dimsAt, derived}
 use Rattle.derive.specs.declared.derivation.Derivation.{Derivation}
 use Rattle.derive.specs.declared.derivation.Ruling.the-variants.{Fine, Refused}
 use Rattle.derive.proofs.Derives.{fine-told, refused-told}

@@ -25,7 +25,7 @@ use Rattle.rules.specs.Refusal.{Refusal, Answer, told, codeOf, twinsAfter}
 use Rattle.rules.specs.Arithmetic as rule
 use Rattle.rules.specs.Lookup as lone
 use Rattle.error.specs.Shown.{errorOf}
-use Rattle.derive.specs.Shown.{at, roomListed}
+use Rattle.fitting.specs.Shown.{at, roomListed}
 use Rattle.derive.proofs.Resolves.{fitting-all}
 use Rattle.registry.specs.Shown.{looked}
 use Rattle.lookup.specs.Shown.{opBy, named, nameOf, fitsDerived, twinsOf, indexedCombine, indexedPower, powerBy}

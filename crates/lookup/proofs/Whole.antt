@@ -10,10 +10,10 @@ use Rattle.rules.specs.Refusal as why
 use Rattle.rules.specs.Refusal.{Placed, told, twinsAfter}
 use Rattle.rules.specs.Table.{kindsOf, rowsOf, isTable, areRows}
 use Rattle.rules.specs.Lookup as lone
-use Rattle.table.proofs.Tells.{no-rows}
+use Rattle.valid.proofs.Tells.{no-rows}
 use Rattle.error.specs.declared.answer.Answer.{Answer}
 use Rattle.error.specs.declared.cause.Error.the-variants as cause
-use Rattle.derive.specs.Shown.{roomListed}
+use Rattle.fitting.specs.Shown.{roomListed}
 use Rattle.registry.specs.Shown.{looked, no}
 use Rattle.lookup.specs.Shown.{placed, nameOf, twinsOf, indexedCombine, indexedPower, powerBy}
 use Rattle.lookup.proofs.NamedTwins.{Names, combined-names, powered-names, listed-after}

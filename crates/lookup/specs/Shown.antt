@@ -14,7 +14,8 @@ use Rattle.rules.specs.Refusal as why
 use Rattle.rules.specs.Refusal.{Placed}
 use Rattle.rules.specs.Arithmetic as rule
 use Rattle.rules.specs.Lookup as lone
-use Rattle.derive.specs.Shown.{at, dimsAt}
+use Rattle.fitting.specs.Shown.{at}
+use Rattle.derive.specs.Shown.{dimsAt}
 use Rattle.error.specs.declared.cause.Error.{Error}
 use Rattle.error.specs.declared.cause.Error.the-variants as cause
 use Rattle.error.specs.Shown.{shown}

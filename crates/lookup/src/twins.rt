@@ -1,17 +1,18 @@
 // The twins of a refusal. A lookup writes nothing: its refusal names the product or power, and here the kinds that fit it are listed.
 use derive::Ruling;
 use derive::derive;
-use derive::list_candidates;
 use dimension::ProductOp;
 use dimension::Rational;
 use error::Error;
 use error::Verdict;
+use fitting::list_candidates;
 use table::dims_of;
 ghost use mathlib.Core.Path.{_≡_};
 ghost use Rattle.rules.specs.Kinds as K;
 ghost use Rattle.rules.specs.Table.{kindsOf};
 ghost use Rattle.dimension.specs.Dimension as D;
-ghost use Rattle.derive.specs.Shown.{at, dimsAt, roomListed};
+ghost use Rattle.fitting.specs.Shown.{at, roomListed};
+ghost use Rattle.derive.specs.Shown.{dimsAt};
 ghost use Rattle.lookup.specs.Shown.{opBy, named, nameOf, fitsDerived, twinsOf};
 
 // What a refusal names: the left, operation and right of a product, the base and exponent of a power, or nothing.

@@ -19,7 +19,8 @@ use Rattle.error.specs.declared.answer.Link.{Link}
 use Rattle.error.specs.declared.answer.Link.the-variants.{To, Nowhere}
 use Rattle.error.specs.declared.cause.Error.{Error}
 use Rattle.error.specs.declared.cause.Error.the-variants as cause
-use Rattle.derive.specs.Shown.{at, derived, resolved}
+use Rattle.fitting.specs.Shown.{at}
+use Rattle.derive.specs.Shown.{derived, resolved}
 use Rattle.derive.specs.declared.derivation.Derivation.{Derivation}
 use Rattle.derive.specs.declared.derivation.Ruling.the-variants as ruling
 use Rattle.derive.specs.declared.resolution.Resolved.{Resolved}

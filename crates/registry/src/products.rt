@@ -18,7 +18,7 @@ ghost use Rattle.laws.specs.Options.{found};
 ghost use Rattle.rules.specs.Refusal.{codeOf};
 ghost use Rattle.rules.specs.Arithmetic as rule;
 ghost use Rattle.rules.specs.Table.{kindsOf, rowsOf};
-ghost use Rattle.derive.specs.Shown.{at};
+ghost use Rattle.fitting.specs.Shown.{at};
 ghost use Rattle.error.specs.declared.cause.Error.the-variants as cause;
 ghost use Rattle.registry.specs.Shown.{looked, kindAs, no, settledAs};
 

@@ -8,20 +8,17 @@ use crate::places::RATE;
 use crate::places::TARGET;
 use crate::words::dims_from;
 use crate::words::index_or;
-use crate::words::same_pair;
 use crate::words::word;
 use dimension::Dimensions;
 use error::Link;
 ghost use mathlib.Core.Path.{_≡_};
-ghost use Prim.Native.Nat.{_+_, _<_, _≤_};
-ghost use lib.ListN.{length};
+ghost use Prim.Native.Nat.{_<_};
 ghost use Rattle.laws.specs.Options.{found, isSome};
-ghost use Rattle.laws.specs.Ranges.{all};
 ghost use Rattle.dimension.specs.Dimension as D;
 ghost use Rattle.rules.specs.Kinds as K;
 ghost use Rattle.rules.specs.Table as T;
 ghost use Rattle.error.specs.Shown.{linked};
-ghost use Rattle.table.specs.Shown.{field, sameWord};
+ghost use Rattle.table.specs.Shown.{field};
 
 // At most 240, whatever the word says.
 pub fn kind_count(t: &[u32]) -> u16
@@ -115,45 +112,4 @@ pub fn duration(t: &[u32]) -> Link
         Link::To(k) => difference_of(t, k),
         Link::Nowhere => Link::Nowhere,
     }
-}
-
-// Whether the exponents from place p on are those of w. It ends at the first pair that differs.
-fn same_from(t: &[u32], p: usize, w: &[u32]) -> bool
-    requires { ⌜ p < 4294967296 ⌝ }
-    ensures { λ r. ⌜ r ≡ D.equal (T.dimsFrom (now (t .entry)) p) (T.dimsFrom (now (w .entry)) 0) ⌝ }
-{
-    let mut b: usize = 0;
-    while b < 12 {
-        if !same_pair(t, p, w, b) {
-            return false;
-        }
-        b += 1;
-    }
-    true
-}
-
-// Whether the 24 words from place p on, all of them there, are those of w. No word ends the loop, so that several are compared at once.
-fn same_words(t: &[u32], p: usize, w: &[u32]) -> bool
-    requires { ⌜ p + 24 ≤ length (now t) ⌝ }
-    requires { ⌜ 24 ≤ length (now w) ⌝ }
-    ensures { λ r. ⌜ r ≡ all (sameWord (now (t .entry)) p (now (w .entry))) 24 ⌝ }
-{
-    let mut same = true;
-    let mut i: usize = 0;
-    while i < 24 {
-        same = same & (t[p + i] == w[i]);
-        i += 1;
-    }
-    same
-}
-
-// Whether the words of kind k stand for the dimensions that w's stand for: at once where all are there, else pair by pair.
-pub(crate) fn same_exponents(t: &[u32], k: u16, w: &[u32]) -> bool
-    ensures { λ r. ⌜ r ≡ D.equal (T.dimsFrom (now (t .entry)) (T.kindPlace k)) (T.dimsFrom (now (w .entry)) 0) ⌝ }
-{
-    let p = KINDS + KIND * k as usize;
-    if (p + 24 <= t.len()) & (24 <= w.len()) {
-        return same_words(t, p, w);
-    }
-    same_from(t, p, w)
 }

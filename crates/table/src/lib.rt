@@ -1,17 +1,10 @@
-// The table's words: what they are read as, and which words are a table. Every public function answers for every list of words; what is read past
-// the end is 0.
-mod fine;
-mod fitting;
+// The table's words: their places, and what they are read as: kinds and rows. Every public function answers for every list of words; what is read
+// past the end is 0.
 mod kinds;
 mod places;
 mod rows;
 mod words;
 
-pub use fine::are_rows;
-pub use fine::is_table;
-pub use fitting::carries;
-pub use fitting::fits;
-pub use fitting::fits_whole;
 pub use kinds::difference_of;
 pub use kinds::dimensionless;
 pub use kinds::dims_of;

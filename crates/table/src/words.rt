@@ -5,7 +5,6 @@ use error::Link;
 ghost use mathlib.Core.Path.{_≡_};
 ghost use Prim.Native.Nat.{_<_};
 ghost use lib.ListN.{length};
-ghost use Rattle.dimension.specs.Fraction as F;
 ghost use Rattle.dimension.specs.Integer as I;
 ghost use Rattle.rules.specs.Table as T;
 ghost use Rattle.error.specs.Shown.{linked};
@@ -27,7 +26,7 @@ pub fn index_or(w: u32) -> Link
 }
 
 // The exponent of base b: the numerator's bits, then the denominator.
-pub(crate) fn exponent(t: &[u32], p: usize, b: usize) -> Rational
+fn exponent(t: &[u32], p: usize, b: usize) -> Rational
     requires { ⌜ p < 4294967296 ⌝ }
     requires { ⌜ b < 12 ⌝ }
     ensures { λ r. ⌜ r ≡ T.exponentFrom (now (t .entry)) p b ⌝ }
@@ -50,19 +49,6 @@ pub(crate) fn dims_from(t: &[u32], p: usize) -> Dimensions
         b += 1;
     }
     d
-}
-
-// Whether the exponent of base b from place p on is that of w: their words are compared, and no fraction is made of them.
-pub(crate) fn same_pair(t: &[u32], p: usize, w: &[u32], b: usize) -> bool
-    requires { ⌜ p < 4294967296 ⌝ }
-    requires { ⌜ b < 12 ⌝ }
-    ensures { λ r. ⌜ r ≡ F.equal (T.exponentFrom (now (t .entry)) p b) (T.exponentFrom (now (w .entry)) 0 b) ⌝ }
-{
-    let x = word(t, p + 2 * b);
-    let m = word(t, p + 2 * b + 1);
-    let y = word(w, 2 * b);
-    let n = word(w, 2 * b + 1);
-    (x == y) & (m == n)
 }
 
 // The bits that stand for a numerator.

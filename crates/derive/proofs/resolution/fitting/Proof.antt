@@ -1,7 +1,7 @@
 -- `derive::resolution::fitting` meets its contract: by how many fit.
 -- Assumes nothing.
 use borrow.Author.Needs.{needs}
-use Rattle.derive.proofs.Seens.{fittings}
+use Rattle.derive.proofs.Fittings.{fittings}
 use Rattle.derive.proofs.resolution.fitting.Statement.{statement}
 use Rattle.derive.proofs.resolution.fitting.Tie as tie
 

@@ -1,7 +1,7 @@
 -- `derive::resolution::fitting_by` meets its contract.
 -- Assumes nothing.
 use borrow.Author.Needs.{needs}
-use Rattle.derive.proofs.Others.{seen-alone, seen-others, fitting-uncounted}
+use Rattle.derive.proofs.Fittings.{seen-alone, seen-others, fitting-uncounted}
 use Rattle.derive.proofs.resolution.fitting_by.Statement.{statement}
 use Rattle.derive.proofs.resolution.fitting_by.Tie as tie
 

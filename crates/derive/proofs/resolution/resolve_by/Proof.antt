@@ -1,7 +1,7 @@
 -- `derive::resolution::resolve_by` meets its contract: what is known comes first.
 -- Assumes nothing.
 use borrow.Author.Needs.{needs}
-use Rattle.derive.proofs.Others.{resolved-known, resolved-fitting}
+use Rattle.derive.proofs.Fittings.{resolved-known, resolved-fitting}
 use Rattle.derive.proofs.resolution.resolve_by.Statement.{statement}
 use Rattle.derive.proofs.resolution.resolve_by.Tie as tie
 
