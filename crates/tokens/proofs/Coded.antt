@@ -1,7 +1,7 @@
 -- The code's tokens and the rules'. Assumes nothing.
 use Prim.Native.Nat.{ℕ, zero, suc}
 use mathlib.Core.Path.{_≡_, refl, sym, _∙_, subst}
-use mathlib.Core.Bool.{Bool, true, false, cond, _&&_}
+use mathlib.Core.Bool.{Bool, true, false, cond, _&&_, true≢false}
 use mathlib.Core.List.{List}
 use mathlib.Core.Option.{some}
 use native.Mathlib.Omega.{arith}
@@ -17,7 +17,7 @@ use Rattle.rules.specs.Arithmetic.{Op, summed, multiplied, Add, Sub, opBy, opCo
 use Rattle.rules.specs.Formula as rule
 use Rattle.rules.specs.Formula.{number, kind, unary, binary, unreadable, exact, inexact, absolute, combined, compared, Machine, bad, step}
 use Rattle.rules.specs.Token.{tokenBy}
-use Rattle.tokens.specs.Shown.{coded, operated}
+use Rattle.tokens.specs.Shown.{coded}
 use Rattle.tokens.specs.declared.token.Token.{Token}
 use Rattle.tokens.specs.declared.token.Token.the-variants.{Number, Kind, Exact, Inexact, Absolute, Combine, Compare, Unreadable}
 
@@ -31,44 +31,39 @@ op-code (multiplied Div) = refl
 op-code (multiplied Dot) = refl
 op-code (multiplied Wedge) = refl
 
--- 2 to 7 are the codes of operations
-operation-by : (c : ℕ) → cond (leb 2 c && leb c 7) (Combine c) Unreadable ≡ coded (operated (opBy c))
-unfolding opBy
-operation-by zero = refl
-operation-by (suc zero) = refl
-operation-by (suc (suc zero)) = refl
-operation-by (suc (suc (suc zero))) = refl
-operation-by (suc (suc (suc (suc zero)))) = refl
-operation-by (suc (suc (suc (suc (suc zero))))) = refl
-operation-by (suc (suc (suc (suc (suc (suc zero)))))) = refl
-operation-by (suc (suc (suc (suc (suc (suc (suc zero))))))) = refl
-operation-by (suc (suc (suc (suc (suc (suc (suc (suc c)))))))) =
-    let n = suc (suc (suc (suc (suc (suc (suc (suc c))))))) in
-    rw (le-leb 2 n (omega arith), lt-leb n 7 (omega arith))
+module _ (i : ℕ) (e : Rational) where
+  -- 2 to 7 are the codes of operations
+  pub is-operation : (c : ℕ) → (leb 2 c && leb c 7) ≡ true → Combine c ≡ coded (tokenBy c i e)
+  unfolding tokenBy
+  is-operation zero h = absurd (true≢false (sym h))
+  is-operation (suc zero) h = absurd (true≢false (sym h))
+  is-operation (suc (suc zero)) h = refl
+  is-operation (suc (suc (suc zero))) h = refl
+  is-operation (suc (suc (suc (suc zero)))) h = refl
+  is-operation (suc (suc (suc (suc (suc zero))))) h = refl
+  is-operation (suc (suc (suc (suc (suc (suc zero)))))) h = refl
+  is-operation (suc (suc (suc (suc (suc (suc (suc zero))))))) h = refl
+  is-operation (suc (suc (suc (suc (suc (suc (suc (suc c)))))))) h =
+      let n = suc (suc (suc (suc (suc (suc (suc (suc c))))))) in
+      let z : false ≡ true = rw (le-leb 2 n (omega arith), lt-leb n 7 (omega arith)) at h in
+      absurd (true≢false (sym z))
 
-module _ (c : ℕ) where
-  pub is-operation : (leb 2 c && leb c 7) ≡ true → Combine c ≡ coded (operated (opBy c))
-  is-operation e = rw e at (operation-by c)
-
-  pub no-operation : (leb 2 c && leb c 7) ≡ false → Unreadable ≡ coded (operated (opBy c))
-  no-operation e = rw e at (operation-by c)
-
--- past the other six codes
-pub token-else : (c i : ℕ) (e : Rational) {v : Token} → (c ≡ 0 → ⊥) → (c ≡ 1 → ⊥) → (c ≡ 8 → ⊥) → (c ≡ 9 → ⊥) → (c ≡ 10 → ⊥) → (c ≡ 11 → ⊥) → v ≡ coded (operated (opBy c)) → v ≡ coded (tokenBy c i e)
-unfolding opBy tokenBy
-token-else zero i e n₀ n₁ n₈ n₉ n₁₀ n₁₁ h = absurd (n₀ refl)
-token-else (suc zero) i e n₀ n₁ n₈ n₉ n₁₀ n₁₁ h = absurd (n₁ refl)
-token-else (suc (suc zero)) i e n₀ n₁ n₈ n₉ n₁₀ n₁₁ h = h
-token-else (suc (suc (suc zero))) i e n₀ n₁ n₈ n₉ n₁₀ n₁₁ h = h
-token-else (suc (suc (suc (suc zero)))) i e n₀ n₁ n₈ n₉ n₁₀ n₁₁ h = h
-token-else (suc (suc (suc (suc (suc zero))))) i e n₀ n₁ n₈ n₉ n₁₀ n₁₁ h = h
-token-else (suc (suc (suc (suc (suc (suc zero)))))) i e n₀ n₁ n₈ n₉ n₁₀ n₁₁ h = h
-token-else (suc (suc (suc (suc (suc (suc (suc zero))))))) i e n₀ n₁ n₈ n₉ n₁₀ n₁₁ h = h
-token-else (suc (suc (suc (suc (suc (suc (suc (suc zero)))))))) i e n₀ n₁ n₈ n₉ n₁₀ n₁₁ h = absurd (n₈ refl)
-token-else (suc (suc (suc (suc (suc (suc (suc (suc (suc zero))))))))) i e n₀ n₁ n₈ n₉ n₁₀ n₁₁ h = absurd (n₉ refl)
-token-else (suc (suc (suc (suc (suc (suc (suc (suc (suc (suc zero)))))))))) i e n₀ n₁ n₈ n₉ n₁₀ n₁₁ h = absurd (n₁₀ refl)
-token-else (suc (suc (suc (suc (suc (suc (suc (suc (suc (suc (suc zero))))))))))) i e n₀ n₁ n₈ n₉ n₁₀ n₁₁ h = absurd (n₁₁ refl)
-token-else (suc (suc (suc (suc (suc (suc (suc (suc (suc (suc (suc (suc c)))))))))))) i e n₀ n₁ n₈ n₉ n₁₀ n₁₁ h = h
+  -- past them and the other six there is none
+  pub no-token : (c : ℕ) → (c ≡ 0 → ⊥) → (c ≡ 1 → ⊥) → (leb 2 c && leb c 7) ≡ false → (c ≡ 8 → ⊥) → (c ≡ 9 → ⊥) → (c ≡ 10 → ⊥) → (c ≡ 11 → ⊥) → Unreadable ≡ coded (tokenBy c i e)
+  unfolding tokenBy
+  no-token zero n₀ n₁ h n₈ n₉ n₁₀ n₁₁ = absurd (n₀ refl)
+  no-token (suc zero) n₀ n₁ h n₈ n₉ n₁₀ n₁₁ = absurd (n₁ refl)
+  no-token (suc (suc zero)) n₀ n₁ h n₈ n₉ n₁₀ n₁₁ = absurd (true≢false h)
+  no-token (suc (suc (suc zero))) n₀ n₁ h n₈ n₉ n₁₀ n₁₁ = absurd (true≢false h)
+  no-token (suc (suc (suc (suc zero)))) n₀ n₁ h n₈ n₉ n₁₀ n₁₁ = absurd (true≢false h)
+  no-token (suc (suc (suc (suc (suc zero))))) n₀ n₁ h n₈ n₉ n₁₀ n₁₁ = absurd (true≢false h)
+  no-token (suc (suc (suc (suc (suc (suc zero)))))) n₀ n₁ h n₈ n₉ n₁₀ n₁₁ = absurd (true≢false h)
+  no-token (suc (suc (suc (suc (suc (suc (suc zero))))))) n₀ n₁ h n₈ n₉ n₁₀ n₁₁ = absurd (true≢false h)
+  no-token (suc (suc (suc (suc (suc (suc (suc (suc zero)))))))) n₀ n₁ h n₈ n₉ n₁₀ n₁₁ = absurd (n₈ refl)
+  no-token (suc (suc (suc (suc (suc (suc (suc (suc (suc zero))))))))) n₀ n₁ h n₈ n₉ n₁₀ n₁₁ = absurd (n₉ refl)
+  no-token (suc (suc (suc (suc (suc (suc (suc (suc (suc (suc zero)))))))))) n₀ n₁ h n₈ n₉ n₁₀ n₁₁ = absurd (n₁₀ refl)
+  no-token (suc (suc (suc (suc (suc (suc (suc (suc (suc (suc (suc zero))))))))))) n₀ n₁ h n₈ n₉ n₁₀ n₁₁ = absurd (n₁₁ refl)
+  no-token (suc (suc (suc (suc (suc (suc (suc (suc (suc (suc (suc (suc c)))))))))))) n₀ n₁ h n₈ n₉ n₁₀ n₁₁ = refl
 
 -- ---- an exponent within the limits, or over them
 module _ (n : ℤ) (d : ℕ) {v : Ratio} where

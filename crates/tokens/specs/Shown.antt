@@ -7,12 +7,13 @@ use lib.Dec.{eqb, ltb}
 use lib.ListN.{drop}
 use Rattle.dimension.specs.Integer as I
 use Rattle.dimension.specs.Fraction as F
-use Rattle.rules.specs.Arithmetic.{Op, opCode}
+use Rattle.rules.specs.Arithmetic.{opCode}
 use Rattle.rules.specs.Formula.{number, kind, unary, binary, unreadable, exact, inexact, absolute, combined, compared, malformedAt}
 use Rattle.rules.specs.Formula as rule
 use Rattle.rules.specs.Token.{tokenBy, tokensIn, goodLength}
 use Rattle.tokens.specs.declared.token.Token.{Token}
 use Rattle.tokens.specs.declared.token.Token.the-variants.{Number, Kind, Exact, Inexact, Absolute, Combine, Compare, Unreadable}
+use Rattle.tokens.specs.declared.token.Fields.{Fields}
 use Rattle.tokens.specs.declared.shape.Shape.{Shape}
 use Rattle.tokens.specs.declared.shape.Shape.the-variants.{Fine, Bad}
 use Rattle.tokens.specs.declared.shape.Depth.{Depth}
@@ -30,11 +31,6 @@ coded (binary (combined op)) = Combine (opCode op)
 coded (binary compared) = Compare
 coded unreadable = Unreadable
 
--- the operation that a code stands for
-abbrev pub operated : Option Op → rule.Token
-operated (some op) = binary (combined op)
-operated none = unreadable
-
 -- a token's five fields: those that its code doesn't use are zero
 unfoldable pub unused : ℕ → ℕ → ℕ → ℕ → ℕ → Bool
 unused code second index num den = eqb second 0 && (eqb code 1 || eqb index 0) && (eqb code 8 || (eqb num 0 && eqb den 0))
@@ -42,6 +38,10 @@ unused code second index num den = eqb second 0 && (eqb code 1 || eqb index 0) &
 -- and the token that they make
 unfoldable pub tokenOf : ℕ → ℕ → ℕ → ℕ → ℕ → rule.Token
 tokenOf code second index num den = cond (unused code second index num den) (tokenBy code index (F.lowest (I.twos 2147483648 num) den)) unreadable
+
+-- the same of the code's struct
+unfoldable pub made : Fields → rule.Token
+made f = tokenOf (f .code) (f .second) (f .index) (f .num) (f .den)
 
 -- the tokens from k on, which a loop has still before it
 unfoldable pub remaining : List ℕ → ℕ → List rule.Token

@@ -6,14 +6,14 @@ use dimension::Ratio;
 use dimension::Rational;
 use dimension::signed32;
 ghost use mathlib.Core.Path.{_≡_};
-ghost use Prim.Native.Nat.{_/_};
+ghost use Prim.Native.Nat.{_+_, _*_, _/_, _≤_};
 ghost use lib.ListN.{length};
 ghost use Rattle.dimension.specs.Integer as I;
 ghost use Rattle.dimension.specs.Fraction as F;
-ghost use Rattle.rules.specs.Arithmetic.{opBy};
+ghost use Rattle.rules.specs.Bytes.{le2, le4};
 ghost use Rattle.rules.specs.Formula.{unary, exact};
 ghost use Rattle.rules.specs.Token.{tokenBy, tokenAt};
-ghost use Rattle.tokens.specs.Shown.{coded, unused, tokenOf, operated};
+ghost use Rattle.tokens.specs.Shown.{coded, unused, tokenOf, made};
 
 // One token. An exact power has an exponent in lowest terms within the limits, an operation its code, 2 to 7.
 pub enum Token {
@@ -25,6 +25,15 @@ pub enum Token {
     Combine(u8),
     Compare,
     Unreadable,
+}
+
+// A token's five fields. However they are read, one call makes the token of them, so that the compiler puts it there.
+struct Fields {
+    code: u8,
+    second: u8,
+    index: u16,
+    num: u32,
+    den: u32,
 }
 
 // An exponent over the limits makes its token unreadable, as it is malformed whatever it is the exponent of.
@@ -44,36 +53,38 @@ fn exact_power(num: u32, den: u32) -> Token
     power(signed32(num), den)
 }
 
-// Add, Sub, Mul, Div, Dot and Wedge keep their codes; those above know what each does.
-fn operation(code: u8) -> Token
-    ensures { λ r. ⌜ r ≡ coded (operated (opBy code)) ⌝ }
-{
-    if (2 <= code) & (code <= 7) {
-        return Token::Combine(code);
-    }
-    Token::Unreadable
-}
-
-// A token by its code, whatever the fields it doesn't use hold.
+// A token by its code, whatever the fields it doesn't use hold. Kinds and operations are most of a formula, so they are asked first.
+// Add, Sub, Mul, Div, Dot and Wedge, 2 to 7, keep their codes; those above know what each does.
 fn token_by(code: u8, index: u16, num: u32, den: u32) -> Token
     ensures { λ r. ⌜ r ≡ coded (tokenBy code index (F.lowest (I.twos 2147483648 num) den)) ⌝ }
 {
+    if code == 1 {
+        return Token::Kind(index);
+    }
+    if (2 <= code) & (code <= 7) {
+        return Token::Combine(code);
+    }
     match code {
         0 => Token::Number,
-        1 => Token::Kind(index),
         8 => exact_power(num, den),
         9 => Token::Inexact,
         10 => Token::Absolute,
         11 => Token::Compare,
-        _ => operation(code),
+        _ => Token::Unreadable,
     }
 }
 
-// Whether the fields that a code doesn't use are zero.
+// Whether the fields that a code doesn't use are zero. The code is asked first, so that only these are looked at.
 fn unused_zero(code: u8, second: u8, index: u16, num: u32, den: u32) -> bool
     ensures { λ r. ⌜ r ≡ unused code second index num den ⌝ }
 {
-    (second == 0) & ((code == 1) | (index == 0)) & ((code == 8) | ((num == 0) & (den == 0)))
+    if code == 1 {
+        return (second == 0) & (num == 0) & (den == 0);
+    }
+    if code == 8 {
+        return (second == 0) & (index == 0);
+    }
+    (second == 0) & (index == 0) & (num == 0) & (den == 0)
 }
 
 // A token from its five fields.
@@ -93,19 +104,81 @@ pub fn token_count(bytes: &[u8]) -> usize
     bytes.len() / 12
 }
 
-// Token k. Far past the end there are only zeros, which say number; asking so first keeps 12 k small.
+// A 16-bit number from its two bytes.
+fn u16_of(low: u8, high: u8) -> u16
+    ensures { λ r. ⌜ r ≡ low + 256 * high ⌝ }
+{
+    low as u16 + 256 * (high as u16)
+}
+
+// The 16-bit number at a place whose two bytes are there.
+fn u16_within(bytes: &[u8], p: usize) -> u16
+    requires { ⌜ p + 2 ≤ length (now bytes) ⌝ }
+    ensures { λ r. ⌜ r ≡ le2 (now (bytes .entry)) p ⌝ }
+{
+    u16_of(bytes[p], bytes[p + 1])
+}
+
+// The 32-bit number at a place whose four bytes are there.
+fn u32_within(bytes: &[u8], p: usize) -> u32
+    requires { ⌜ p + 4 ≤ length (now bytes) ⌝ }
+    ensures { λ r. ⌜ r ≡ le4 (now (bytes .entry)) p ⌝ }
+{
+    u16_within(bytes, p) as u32 + 65536 * (u16_within(bytes, p + 2) as u32)
+}
+
+// The fields of token k where its twelve bytes are all there, so that no place needs a test and each field is read at once.
+fn fields_within(bytes: &[u8], k: usize) -> Fields
+    requires { ⌜ 12 * k + 12 ≤ length (now bytes) ⌝ }
+    ensures { λ r. ⌜ made r ≡ tokenAt (now (bytes .entry)) k ⌝ }
+{
+    let p = 12 * k;
+    Fields {
+        code: bytes[p],
+        second: bytes[p + 1],
+        index: u16_within(bytes, p + 2),
+        num: u32_within(bytes, p + 4),
+        den: u32_within(bytes, p + 8),
+    }
+}
+
+// The fields of token k, whatever lies past the end. Far past it there are only zeros; asking so first keeps 12 k small.
+fn fields_past(bytes: &[u8], k: usize) -> Fields
+    ensures { λ r. ⌜ made r ≡ tokenAt (now (bytes .entry)) k ⌝ }
+{
+    if token_count(bytes) < k {
+        return Fields {
+            code: 0,
+            second: 0,
+            index: 0,
+            num: 0,
+            den: 0,
+        };
+    }
+    let p = 12 * k;
+    Fields {
+        code: byte_at(bytes, p),
+        second: byte_at(bytes, p + 1),
+        index: u16_at(bytes, p + 2),
+        num: u32_at(bytes, p + 4),
+        den: u32_at(bytes, p + 8),
+    }
+}
+
+// The fields of token k. Every token below the count has all its bytes.
+fn fields_at(bytes: &[u8], k: usize) -> Fields
+    ensures { λ r. ⌜ made r ≡ tokenAt (now (bytes .entry)) k ⌝ }
+{
+    if k < token_count(bytes) {
+        return fields_within(bytes, k);
+    }
+    fields_past(bytes, k)
+}
+
+// Token k.
 pub fn token_at(bytes: &[u8], k: usize) -> Token
     ensures { λ r. ⌜ r ≡ coded (tokenAt (now (bytes .entry)) k) ⌝ }
 {
-    if token_count(bytes) < k {
-        return Token::Number;
-    }
-    let p = 12 * k;
-    token_of(
-        byte_at(bytes, p),
-        byte_at(bytes, p + 1),
-        u16_at(bytes, p + 2),
-        u32_at(bytes, p + 4),
-        u32_at(bytes, p + 8),
-    )
+    let f = fields_at(bytes, k);
+    token_of(f.code, f.second, f.index, f.num, f.den)
 }
