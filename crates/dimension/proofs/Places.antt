@@ -8,7 +8,7 @@ use Prim.Native.Nat.{ℕ, zero, suc, _+_, _<_, _≤_}
 use native.Mathlib.Nat.{le-of-suc-le-suc, not-suc-le-zero, suc-inj}
 use native.Mathlib.Numerals.{add-one}
 use native.Mathlib.Omega.{arith}
-use lib.ListN.{length, getD, set, take, replicate}
+use lib.ListN.{length, getD, set, take}
 use lib.Seq.{take-suc, take-suc-set, take-all}
 use Rattle.laws.specs.Options.{found}
 use Rattle.laws.proofs.Cases.{and-left, and-right}
@@ -34,12 +34,11 @@ module _ (f : Rational → Rational → Ratio) where
   zip-length (x ∷ a) [] e = omega arith
   zip-length (x ∷ a) (y ∷ b) e = ap suc (zip-length a b (suc-inj e))
 
-  -- one exponent for every place
-  pub zip-repeat : (n : ℕ) (e : Rational) (a : List Rational) → length a ≡ n → zipWith f a (replicate n e) ≡ map (λ (x : Rational). f x e) a
-  unfolding zipWith
-  zip-repeat n e [] h = refl
-  zip-repeat zero e (x ∷ a) h = absurd (omega arith)
-  zip-repeat (suc n) e (x ∷ a) h = ap (λ (l : List Ratio). f x e ∷ l) (zip-repeat n e a (suc-inj h))
+-- what is made of each place
+pub map-at : {A B : Type 0} (f : A → B) (d : A) (z : B) (l : List A) (i : ℕ) → i < length l → getD (map f l) i z ≡ f (getD l i d)
+map-at f d z [] i h = absurd (omega arith)
+map-at f d z (x ∷ l) zero h = refl
+map-at f d z (x ∷ l) (suc i) h = map-at f d z l i (omega arith)
 
 -- one more fraction
 all-more : (l : List Ratio) (m : List Rational) (a : Rational) → all l ≡ some m → all (l ++ (Is a ∷ [])) ≡ some (m ++ (a ∷ []))

@@ -3,9 +3,8 @@ use Rattle.dimension.specs.Fraction as F
 use Rattle.dimension.specs.declared.rational.Rational.{Rational}
 use Rattle.dimension.specs.declared.rational.Ratio.{Ratio}
 use Rattle.dimension.specs.declared.dimensions.Rule.{Rule}
-use Rattle.dimension.specs.declared.dimensions.Rule.the-variants.{Add, Minus, Times}
+use Rattle.dimension.specs.declared.dimensions.Rule.the-variants.{Add, Minus}
 
 abbrev pub applied : Rule → Rational → Rational → Ratio
 applied Add a b = F.sum a b
 applied Minus a b = F.difference a b
-applied Times a b = F.product a b

@@ -21,7 +21,6 @@ pub struct Outcome {
 enum Rule {
     Add,
     Minus,
-    Times,
 }
 
 fn applied(rule: Rule, a: Rational, b: Rational) -> Ratio
@@ -30,7 +29,6 @@ fn applied(rule: Rule, a: Rational, b: Rational) -> Ratio
     match rule {
         Rule::Add => a.add(b),
         Rule::Minus => a.minus(b),
-        Rule::Times => a.times(b),
     }
 }
 
@@ -44,6 +42,33 @@ fn each(rule: Rule, a: Dimensions, b: Dimensions) -> Outcome
         let x = a.powers[i];
         let y = b.powers[i];
         match applied(rule, x, y) {
+            Ratio::Is(z) => {
+                out.powers[i] = z;
+            }
+            Ratio::Over => {
+                return Outcome {
+                    over: true,
+                    value: Dimensions::one(),
+                };
+            }
+        }
+        i += 1;
+    }
+    Outcome {
+        over: false,
+        value: out,
+    }
+}
+
+// Each exponent times e.
+fn raised(a: Dimensions, e: Rational) -> Outcome
+    ensures { λ r. ⌜ r ≡ D.power a e ⌝ }
+{
+    let mut out = a;
+    let mut i = 0;
+    while i < 12 {
+        let x = a.powers[i];
+        match x.times(e) {
             Ratio::Is(z) => {
                 out.powers[i] = z;
             }
@@ -86,8 +111,7 @@ impl Dimensions {
     pub fn pow(self, exponent: Rational) -> Outcome
         ensures { λ r. ⌜ r ≡ D.power self exponent ⌝ }
     {
-        let p = [exponent; 12];
-        each(Rule::Times, self, Dimensions { powers: p })
+        raised(self, exponent)
     }
 
     pub fn equals(self, other: Dimensions) -> bool

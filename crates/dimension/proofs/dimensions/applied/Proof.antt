@@ -13,8 +13,5 @@ returns c = c .add .ensures ∙ ap (λ (r : Rule). Applied.applied r (c .before 
 returns-2 : tie.Need-returns-2
 returns-2 c = c .minus .ensures ∙ ap (λ (r : Rule). Applied.applied r (c .before .before .before .args .a) (c .before .before .before .args .b)) (sym (c .before .enum-told2 .given .1))
 
-returns-3 : tie.Need-returns-3
-returns-3 c = c .times .ensures ∙ ap (λ (r : Rule). Applied.applied r (c .before .before .before .args .a) (c .before .before .before .args .b)) (sym (c .before .enum-told3 .given .1))
-
 pub applied-spec : {M : Type 1} → statement M
-applied-spec = tie.close (tie.spec (search needs) (search needs) (search needs) (search needs) (search needs) (search needs) returns returns-2 returns-3)
+applied-spec = tie.close (tie.spec (search needs) (search needs) (search needs) (search needs) returns returns-2)
