@@ -25,7 +25,7 @@ use Rattle.error.specs.declared.answer.Link.{Link}
 use Rattle.error.specs.declared.answer.Link.the-variants.{To, Nowhere}
 use Rattle.error.specs.declared.cause.Error.the-variants as cause
 use Rattle.fitting.specs.Shown.{at}
-use Rattle.derive.specs.Shown.{dimsAt}
+use Rattle.joined.specs.Shown.{dimsAt}
 use Rattle.compile.specs.Shown.{ruled, rateOnce, rateFits, rateOver, rateFor}
 use Rattle.compile.proofs.Firsts.{first-fewer, first-before, first-after}
 use Rattle.compile.proofs.Ruled.{passes, test-refused, test-passed, found-refused, found-passed, needed-refused, needed-passed, operand-refused, operand-passed, only-refused, only-passed, id-blank, id-unknown, id-known, link-below}

@@ -21,7 +21,7 @@ ghost use Rattle.rules.specs.Layout as layout;
 ghost use Rattle.rules.specs.Catalog.{catalogIn};
 ghost use Rattle.rules.specs.Compile as rule;
 ghost use Rattle.rules.specs.Table as T;
-ghost use Rattle.derive.specs.Shown.{dimsAt};
+ghost use Rattle.joined.specs.Shown.{dimsAt};
 ghost use Rattle.compile.specs.Shown.{ruled, Reads, rateOnce, rateFits, rateOver, rateFor};
 
 // 21: no earlier kind is a rate of g.

@@ -20,7 +20,10 @@ use Rattle.error.specs.declared.cause.Error.{Error}
 use Rattle.error.specs.declared.cause.Error.the-variants as cause
 use Rattle.fitting.specs.Shown.{at}
 use Rattle.derive.specs.declared.derivation.Ruling.the-variants.{Fine, Refused}
-use Rattle.derive.specs.Shown.{dimsAt, derived, givenAs, refusedAs}
+use Rattle.derive.specs.Shown.{ruledAs, derived, givenAs, refusedAs}
+use Rattle.joined.specs.Shown.{dimsAt}
+use Rattle.derive.specs.declared.derivation.GradeRuling.{GradeRuling}
+use Rattle.derive.specs.declared.derivation.GradeRuling.the-variants as ruled
 use Rattle.derive.specs.declared.derivation.Derivation.{Derivation}
 
 -- ---- told: v is what a call returned
@@ -61,65 +64,104 @@ is-some (some a) z e p = refl
 is-some none z {b} e p = let y : b ≡ true = not-false b p in cc
 
 module _ (K : Kinds) (l : ℕ) (op : ProductOp) (r : ℕ) where
-  left-none : K .dims l ≡ none → refusedAs (cause.UnresolvedDimensions l) ≡ derived (rule.derive K l op r)
+  left-none : K .dims l ≡ none → ruled.Refused (cause.UnresolvedDimensions l) ≡ ruledAs (rule.derive K l op r)
   unfolding rule.derive rule.operand
   left-none p = rw p
 
   module _ {d : Dimensions} (pl : K .dims l ≡ some d) where
-    right-none : K .dims r ≡ none → refusedAs (cause.UnresolvedDimensions r) ≡ derived (rule.derive K l op r)
+    right-none : K .dims r ≡ none → ruled.Refused (cause.UnresolvedDimensions r) ≡ ruledAs (rule.derive K l op r)
     unfolding rule.derive rule.operand
     right-none p = rw (pl, p)
 
     module _ {e : Dimensions} (pr : K .dims r ≡ some e) where
-      left-is-point : point K l ≡ true → refusedAs (cause.Point l (codeOf op) r l) ≡ derived (rule.derive K l op r)
+      left-is-point : point K l ≡ true → ruled.Refused (cause.Point l (codeOf op) r l) ≡ ruledAs (rule.derive K l op r)
       unfolding rule.derive rule.operand
       left-is-point p = rw (pl, pr, p)
 
       module _ (ql : point K l ≡ false) where
-        right-is-point : point K r ≡ true → refusedAs (cause.Point l (codeOf op) r r) ≡ derived (rule.derive K l op r)
+        right-is-point : point K r ≡ true → ruled.Refused (cause.Point l (codeOf op) r r) ≡ ruledAs (rule.derive K l op r)
         unfolding rule.derive rule.operand
         right-is-point p = rw (pl, pr, ql, p)
 
         module _ (qr : point K r ≡ false) where
-          no-grade : rule.gradeBy K op (K .grade l) (K .grade r) ≡ Absent → refusedAs (cause.Ungraded l r (K .grade l) (K .grade r)) ≡ derived (rule.derive K l op r)
+          no-grade : rule.gradeBy K op (K .grade l) (K .grade r) ≡ Absent → ruled.Refused (cause.Ungraded l r (K .grade l) (K .grade r)) ≡ ruledAs (rule.derive K l op r)
           unfolding rule.derive rule.operand rule.graded
           no-grade p = rw (pl, pr, ql, qr, p)
 
-          one-grade : {g : ℕ} → rule.gradeBy K op (K .grade l) (K .grade r) ≡ Single g → givenAs (rule.joined op d e) g ≡ derived (rule.derive K l op r)
+          one-grade : {g : ℕ} → rule.gradeBy K op (K .grade l) (K .grade r) ≡ Single g → ruled.Of g ≡ ruledAs (rule.derive K l op r)
           unfolding rule.derive rule.operand rule.graded
           one-grade p = rw (pl, pr, ql, qr, p)
 
 -- ---- met by the code: v is what a return's call returned, a to q what the tests said, w the grade
 module _ (K : Kinds) (l : ℕ) (op : ProductOp) (r : ℕ) {a : Bool} (ea : a ≡ isSome (K .dims l)) where
-  pub left-unresolved : {v : Derivation} → not a ≡ true → v ≡ refusedAs (cause.UnresolvedDimensions l) → v ≡ derived (rule.derive K l op r)
+  pub left-unresolved : {v : GradeRuling} → not a ≡ true → v ≡ ruled.Refused (cause.UnresolvedDimensions l) → v ≡ ruledAs (rule.derive K l op r)
   left-unresolved fa h = h ∙ left-none K l op r (is-none (K .dims l) ea fa)
 
   module _ (fa : not a ≡ false) {b : Bool} (eb : b ≡ isSome (K .dims r)) where
     pl : K .dims l ≡ some (dimsAt K l)
     pl = is-some (K .dims l) D.one ea fa
 
-    pub right-unresolved : {v : Derivation} → not b ≡ true → v ≡ refusedAs (cause.UnresolvedDimensions r) → v ≡ derived (rule.derive K l op r)
+    pub right-unresolved : {v : GradeRuling} → not b ≡ true → v ≡ ruled.Refused (cause.UnresolvedDimensions r) → v ≡ ruledAs (rule.derive K l op r)
     right-unresolved fb h = h ∙ right-none K l op r pl (is-none (K .dims r) eb fb)
 
     module _ (fb : not b ≡ false) {p : Bool} (ep : p ≡ point K l) where
       pr : K .dims r ≡ some (dimsAt K r)
       pr = is-some (K .dims r) D.one eb fb
 
-      pub left-point : {v : Derivation} → p ≡ true → v ≡ refusedAs (cause.Point l (codeOf op) r l) → v ≡ derived (rule.derive K l op r)
+      pub left-point : {v : GradeRuling} → p ≡ true → v ≡ ruled.Refused (cause.Point l (codeOf op) r l) → v ≡ ruledAs (rule.derive K l op r)
       left-point fp h = h ∙ left-is-point K l op r pl pr (sym ep ∙ fp)
 
       module _ (fp : p ≡ false) {q : Bool} (eq : q ≡ point K r) where
-        pub right-point : {v : Derivation} → q ≡ true → v ≡ refusedAs (cause.Point l (codeOf op) r r) → v ≡ derived (rule.derive K l op r)
+        pub right-point : {v : GradeRuling} → q ≡ true → v ≡ ruled.Refused (cause.Point l (codeOf op) r r) → v ≡ ruledAs (rule.derive K l op r)
         right-point fq h = h ∙ right-is-point K l op r pl pr (sym ep ∙ fp) (sym eq ∙ fq)
 
         module _ (fq : q ≡ false) {w : Grade} (ew : w ≡ rule.gradeBy K op (K .grade l) (K .grade r)) where
-          pub ungraded : {v : Derivation} → w ≡ Absent → v ≡ refusedAs (cause.Ungraded l r (K .grade l) (K .grade r)) → v ≡ derived (rule.derive K l op r)
+          pub ungraded : {v : GradeRuling} → w ≡ Absent → v ≡ ruled.Refused (cause.Ungraded l r (K .grade l) (K .grade r)) → v ≡ ruledAs (rule.derive K l op r)
           ungraded fw h = h ∙ no-grade K l op r pl pr (sym ep ∙ fp) (sym eq ∙ fq) (sym ew ∙ fw)
 
-          pub derives-to : {v : Derivation} {g : ℕ} → w ≡ Single g → v ≡ givenAs (rule.joined op (dimsAt K l) (dimsAt K r)) g → v ≡ derived (rule.derive K l op r)
+          pub derives-to : {v : GradeRuling} {g : ℕ} → w ≡ Single g → v ≡ ruled.Of g → v ≡ ruledAs (rule.derive K l op r)
           derives-to fw h = h ∙ one-grade K l op r pl pr (sym ep ∙ fp) (sym eq ∙ fq) (sym ew ∙ fw)
 
 pub ruleset derives = (left-unresolved, right-unresolved, left-point, right-point, ungraded, derives-to)
+
+-- ---- the dimensions that come with a grade: v is what was ruled
+module _ (K : Kinds) (l : ℕ) (op : ProductOp) (r : ℕ) {v : GradeRuling} (e : v ≡ ruledAs (rule.derive K l op r)) where
+  pub of-told : {g : ℕ} → v ≡ ruled.Of g → rule.derive K l op r ≡ given (at (rule.joined op (dimsAt K l) (dimsAt K r)) g)
+  unfolding rule.derive rule.operand rule.graded
+  of-told {g} h = go (K .dims l) refl (K .dims r) refl (point K l) refl (point K r) refl (rule.gradeBy K op (K .grade l) (K .grade r)) refl
+    where
+      never : (x : Error) → v ≡ ruled.Refused x → ⊥
+      never x q = let y : true ≡ false = cc in true≢false y
+
+      go : (a : Option Dimensions) → K .dims l ≡ a → (b : Option Dimensions) → K .dims r ≡ b → (p : Bool) → point K l ≡ p → (q : Bool) → point K r ≡ q
+          → (w : Grade) → rule.gradeBy K op (K .grade l) (K .grade r) ≡ w → rule.derive K l op r ≡ given (at (rule.joined op (dimsAt K l) (dimsAt K r)) g)
+      go none ea b eb p ep q eq w ew = absurd (never (cause.UnresolvedDimensions l) (e ∙ rw ea))
+      go (some a) ea none eb p ep q eq w ew = absurd (never (cause.UnresolvedDimensions r) (e ∙ rw (ea, eb)))
+      go (some a) ea (some b) eb true ep q eq w ew = absurd (never (cause.Point l (codeOf op) r l) (e ∙ rw (ea, eb, ep)))
+      go (some a) ea (some b) eb false ep true eq w ew = absurd (never (cause.Point l (codeOf op) r r) (e ∙ rw (ea, eb, ep, eq)))
+      go (some a) ea (some b) eb false ep false eq Absent ew = absurd (never (cause.Ungraded l r (K .grade l) (K .grade r)) (e ∙ rw (ea, eb, ep, eq, ew)))
+      go (some a) ea (some b) eb false ep false eq (Single m) ew =
+          let z : v ≡ ruled.Of m = e ∙ rw (ea, eb, ep, eq, ew) in
+          let y : m ≡ g = cc in
+          rw (ea, eb, ep, eq, ew, y)
+
+  pub with-dims : {g : ℕ} {d : Derivation} → v ≡ ruled.Of g → d ≡ givenAs (rule.joined op (dimsAt K l) (dimsAt K r)) g → d ≡ derived (rule.derive K l op r)
+  with-dims h q = q ∙ sym (ap derived (of-told h))
+
+  pub with-none : {x : Error} {d : Derivation} → v ≡ ruled.Refused x → d ≡ refusedAs x → d ≡ derived (rule.derive K l op r)
+  with-none {x} {d} h q = go (rule.derive K l op r) refl
+    where
+      go : (m : Answer Graded) → rule.derive K l op r ≡ m → d ≡ derived (rule.derive K l op r)
+      go (given y) z =
+          let u : ruled.Refused x ≡ ruled.Of (y .grade) = sym h ∙ e ∙ ap ruledAs z in
+          let b : true ≡ false = cc in
+          absurd (true≢false b)
+      go (refused y) z =
+          let u : ruled.Refused x ≡ ruled.Refused (errorOf y) = sym h ∙ e ∙ ap ruledAs z in
+          let b : x ≡ errorOf y = cc in
+          q ∙ ap refusedAs b ∙ sym (ap derived z)
+
+pub ruleset gradings = (with-dims, with-none)
 
 -- ---- what a derivation is refused for returns no dimensions
 -- one refusal is another

@@ -12,11 +12,12 @@ use Rattle.rules.specs.Arithmetic as rule
 use Rattle.error.specs.Shown.{linked}
 use Rattle.error.specs.declared.answer.Link.{Link}
 use Rattle.error.specs.declared.answer.Link.the-variants.{To, Nowhere}
-use Rattle.derive.specs.Shown.{resolved, severalOf, unlinked}
+use Rattle.fitting.specs.Shown.{severalOf}
+use Rattle.fitting.specs.declared.sought.Several.{Several}
+use Rattle.fitting.specs.declared.sought.Several.the-variants as several
+use Rattle.derive.specs.Shown.{resolved, unlinked}
 use Rattle.derive.specs.declared.resolution.Resolved.{Resolved}
 use Rattle.derive.specs.declared.resolution.Resolved.the-variants.{Is, Twins, Nothing}
-use Rattle.derive.specs.declared.resolution.Several.{Several}
-use Rattle.derive.specs.declared.resolution.Several.the-variants as several
 
 -- ---- a link is read back
 pub unlinked-linked : (o : Option ℕ) → unlinked (linked o) ≡ o

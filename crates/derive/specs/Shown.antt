@@ -2,11 +2,10 @@
 use Prim.Native.Nat.{ℕ}
 use mathlib.Core.Option.{Option, some, none}
 use lib.ListN.{length}
-use Rattle.laws.specs.Options.{found}
 use Rattle.laws.specs.Out.{given, refused}
 use Rattle.dimension.specs.Dimension as D
 use Rattle.dimension.specs.declared.dimensions.Dimensions.{Dimensions}
-use Rattle.rules.specs.Kinds.{Kinds, Graded}
+use Rattle.rules.specs.Kinds.{Graded}
 use Rattle.rules.specs.Refusal.{Answer}
 use Rattle.rules.specs.Arithmetic as rule
 use Rattle.error.specs.Shown.{errorOf}
@@ -14,17 +13,19 @@ use Rattle.error.specs.declared.cause.Error.{Error}
 use Rattle.derive.specs.declared.derivation.Ruling.the-variants.{Fine, Refused}
 use Rattle.error.specs.declared.answer.Link.{Link}
 use Rattle.error.specs.declared.answer.Link.the-variants.{To, Nowhere}
+use Rattle.fitting.specs.declared.sought.Several.{Several}
+use Rattle.fitting.specs.declared.sought.Several.the-variants as several
 use Rattle.derive.specs.declared.derivation.Derivation.{Derivation}
+use Rattle.derive.specs.declared.derivation.GradeRuling.{GradeRuling}
+use Rattle.derive.specs.declared.derivation.GradeRuling.the-variants as ruled
 use Rattle.derive.specs.declared.resolution.Resolved.{Resolved}
 use Rattle.derive.specs.declared.resolution.Resolved.the-variants.{Is, Twins, Nothing}
-use Rattle.derive.specs.declared.resolution.Several.{Several}
-use Rattle.derive.specs.declared.resolution.Several.the-variants as several
 
--- the dimensions of a kind, dimension one where they are unresolved
-abbrev pub dimsAt : Kinds → ℕ → Dimensions
-dimsAt K k = found (K .dims k) (λ d. d) D.one
+-- ---- a derivation: its grade alone, and with dimensions
+abbrev pub ruledAs : Answer Graded → GradeRuling
+ruledAs (given x) = ruled.Of (x .grade)
+ruledAs (refused x) = ruled.Refused (errorOf x)
 
--- ---- a derivation
 abbrev pub givenAs : Dimensions → ℕ → Derivation
 givenAs d g = record { ruling = Fine; dims = d; grade = g }
 
@@ -42,11 +43,6 @@ resolved (rule.twins ks) = Twins (length ks)
 resolved rule.nothing = Nothing
 
 -- without the number of those that fit
-abbrev pub severalOf : rule.Resolved → Several
-severalOf (rule.is k) = several.Is k
-severalOf (rule.twins ks) = several.Many
-severalOf rule.nothing = several.Nothing
-
 abbrev pub uncountedOf : Resolved → Several
 uncountedOf (Is k) = several.Is k
 uncountedOf (Twins n) = several.Many

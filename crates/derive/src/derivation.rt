@@ -4,6 +4,7 @@ use dimension::Grade;
 use dimension::ProductOp;
 use dimension::product_grade;
 use error::Error;
+use joined::joined;
 use table::dims_of;
 use table::grade_of;
 use table::is_point;
@@ -13,7 +14,9 @@ ghost use Rattle.dimension.specs.Grade as G;
 ghost use Rattle.rules.specs.Refusal.{codeOf};
 ghost use Rattle.rules.specs.Table.{kindsOf};
 ghost use Rattle.rules.specs.Arithmetic as rule;
-ghost use Rattle.derive.specs.Shown.{derived, givenAs, refusedAs, dimsAt};
+ghost use Rattle.joined.specs.Shown.{dimsAt};
+ghost use Rattle.derive.specs.Shown.{ruledAs, derived, givenAs, refusedAs};
+ghost use Rattle.derive.specs.declared.derivation.GradeRuling.the-variants as ruled;
 ghost use Rattle.error.specs.declared.cause.Error.the-variants as cause;
 
 // Whether a product has a dimension and grade.
@@ -48,18 +51,6 @@ fn grade_at(t: &[u32], l: u16, op: ProductOp, r: u16) -> Grade
     graded(op, grade_of(t, l), grade_of(t, r))
 }
 
-// Exponents are added, in a quotient subtracted.
-fn joined(op: ProductOp, a: Dimensions, b: Dimensions) -> Dimensions
-    ensures { λ v. ⌜ v ≡ rule.joined op a b ⌝ }
-{
-    match op {
-        ProductOp::Mul => a.product(b).value,
-        ProductOp::Div => a.quotient(b).value,
-        ProductOp::Dot => a.product(b).value,
-        ProductOp::Wedge => a.product(b).value,
-    }
-}
-
 fn joined_at(t: &[u32], l: u16, op: ProductOp, r: u16) -> Dimensions
     ensures { λ v. ⌜ v ≡ rule.joined op (dimsAt (kindsOf (now (t .entry))) l) (dimsAt (kindsOf (now (t .entry))) r) ⌝ }
 {
@@ -88,37 +79,33 @@ pub fn op_code(op: ProductOp) -> u8
     }
 }
 
-fn point_in(l: u16, op: ProductOp, r: u16, k: u16) -> Derivation
-    ensures { λ v. ⌜ v ≡ refusedAs (cause.Point l (codeOf op) r k) ⌝ }
-{
-    refused(Error::Point(l, op_code(op), r, k))
+// The grade of a product, or why it has none.
+pub enum GradeRuling {
+    Of(u32),
+    Refused(Error),
 }
 
-fn ungraded(t: &[u32], l: u16, r: u16) -> Derivation
-    ensures { λ v. ⌜ v ≡ refusedAs (cause.Ungraded l r (kindsOf (now (t .entry)) .grade l) (kindsOf (now (t .entry)) .grade r)) ⌝ }
+fn point_in(l: u16, op: ProductOp, r: u16, k: u16) -> GradeRuling
+    ensures { λ v. ⌜ v ≡ ruled.Refused (cause.Point l (codeOf op) r k) ⌝ }
 {
-    refused(Error::Ungraded(l, r, grade_of(t, l), grade_of(t, r)))
+    GradeRuling::Refused(Error::Point(l, op_code(op), r, k))
 }
 
-fn of_grade(t: &[u32], l: u16, op: ProductOp, r: u16, g: u8) -> Derivation
-    ensures { λ v. ⌜ v ≡ givenAs (rule.joined op (dimsAt (kindsOf (now (t .entry))) l) (dimsAt (kindsOf (now (t .entry))) r)) g ⌝ }
+fn ungraded(t: &[u32], l: u16, r: u16) -> GradeRuling
+    ensures { λ v. ⌜ v ≡ ruled.Refused (cause.Ungraded l r (kindsOf (now (t .entry)) .grade l) (kindsOf (now (t .entry)) .grade r)) ⌝ }
 {
-    Derivation {
-        ruling: Ruling::Fine,
-        dims: joined_at(t, l, op, r),
-        grade: g as u32,
-    }
+    GradeRuling::Refused(Error::Ungraded(l, r, grade_of(t, l), grade_of(t, r)))
 }
 
-// 19 left, 19 right, 23 left, 23 right, 24.
-pub fn derive(t: &[u32], l: u16, op: ProductOp, r: u16) -> Derivation
-    ensures { λ v. ⌜ v ≡ derived (rule.derive (kindsOf (now (t .entry))) l op r) ⌝ }
+// 19 left, 19 right, 23 left, 23 right, 24. No dimensions are made for it.
+pub fn ruled(t: &[u32], l: u16, op: ProductOp, r: u16) -> GradeRuling
+    ensures { λ v. ⌜ v ≡ ruledAs (rule.derive (kindsOf (now (t .entry))) l op r) ⌝ }
 {
     if !is_resolved(t, l) {
-        return refused(Error::UnresolvedDimensions(l));
+        return GradeRuling::Refused(Error::UnresolvedDimensions(l));
     }
     if !is_resolved(t, r) {
-        return refused(Error::UnresolvedDimensions(r));
+        return GradeRuling::Refused(Error::UnresolvedDimensions(r));
     }
     if is_point(t, l) {
         return point_in(l, op, r, l);
@@ -127,7 +114,27 @@ pub fn derive(t: &[u32], l: u16, op: ProductOp, r: u16) -> Derivation
         return point_in(l, op, r, r);
     }
     match grade_at(t, l, op, r) {
-        Grade::Single(g) => of_grade(t, l, op, r, g),
+        Grade::Single(g) => GradeRuling::Of(g as u32),
         Grade::Absent => ungraded(t, l, r),
+    }
+}
+
+fn of_grade(t: &[u32], l: u16, op: ProductOp, r: u16, g: u32) -> Derivation
+    ensures { λ v. ⌜ v ≡ givenAs (rule.joined op (dimsAt (kindsOf (now (t .entry))) l) (dimsAt (kindsOf (now (t .entry))) r)) g ⌝ }
+{
+    Derivation {
+        ruling: Ruling::Fine,
+        dims: joined_at(t, l, op, r),
+        grade: g,
+    }
+}
+
+// The grade, and the dimensions with it.
+pub fn derive(t: &[u32], l: u16, op: ProductOp, r: u16) -> Derivation
+    ensures { λ v. ⌜ v ≡ derived (rule.derive (kindsOf (now (t .entry))) l op r) ⌝ }
+{
+    match ruled(t, l, op, r) {
+        GradeRuling::Of(g) => of_grade(t, l, op, r, g),
+        GradeRuling::Refused(e) => refused(e),
     }
 }

@@ -104,7 +104,7 @@ fn rated(t: &[u32], l: u16, op: ProductOp, r: u16) -> Link
 }
 
 // What a product is known as: neutral first, then by a rate.
-pub(crate) fn known(t: &[u32], l: u16, op: ProductOp, r: u16) -> Link
+pub fn known_kind(t: &[u32], l: u16, op: ProductOp, r: u16) -> Link
     ensures { λ v. ⌜ v ≡ linked (orElse (rule.neutral (kindsOf (now (t .entry))) l op r) (rule.rated (kindsOf (now (t .entry))) l op r)) ⌝ }
 {
     match neutral(t, l, op, r) {

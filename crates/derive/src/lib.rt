@@ -5,12 +5,14 @@ mod known;
 mod resolution;
 
 pub use derivation::Derivation;
+pub use derivation::GradeRuling;
 pub use derivation::Ruling;
 pub use derivation::derive;
 pub use derivation::op_code;
+pub use derivation::ruled;
+pub use known::known_kind;
 pub use known::neutral_power;
 pub use resolution::Resolved;
-pub use resolution::Several;
 pub use resolution::or_fitting;
 pub use resolution::resolve;
 pub use resolution::resolve_by;

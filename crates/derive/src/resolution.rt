@@ -1,17 +1,18 @@
 // The kind that dimensions and a grade come to: the one that is known, the only one that fits, or that there are several or none.
-use crate::known::known;
+use crate::known::known_kind;
 use dimension::Dimensions;
 use dimension::ProductOp;
 use error::Link;
 use fitting::Beside;
+use fitting::Several;
 use fitting::candidates;
 use fitting::seen_from;
 ghost use mathlib.Core.Path.{_≡_};
 ghost use Rattle.rules.specs.Kinds as K;
 ghost use Rattle.rules.specs.Table.{kindsOf};
 ghost use Rattle.rules.specs.Arithmetic as rule;
-ghost use Rattle.fitting.specs.Shown.{at};
-ghost use Rattle.derive.specs.Shown.{resolved, uncountedOf, severalOf, unlinked};
+ghost use Rattle.fitting.specs.Shown.{at, severalOf};
+ghost use Rattle.derive.specs.Shown.{resolved, uncountedOf, unlinked};
 
 // A kind; how many fit, where there are several; none.
 pub enum Resolved {
@@ -34,12 +35,6 @@ fn fitting(t: &[u32], d: Dimensions, g: u32) -> Resolved
 }
 
 // The same without the number of those that fit.
-pub enum Several {
-    Is(u16),
-    Many,
-    Nothing,
-}
-
 fn uncounted(r: Resolved) -> Several
     ensures { λ v. ⌜ v ≡ uncountedOf r ⌝ }
 {
@@ -73,7 +68,7 @@ pub fn resolve_by(
 ) -> Several
     ensures { λ v. ⌜ v ≡ severalOf (rule.resolve (kindsOf (now (t .entry))) l op r (at d g)) ⌝ }
 {
-    match known(t, l, op, r) {
+    match known_kind(t, l, op, r) {
         Link::To(j) => Several::Is(j),
         Link::Nowhere => fitting_by(t, d, g, k),
     }
@@ -93,5 +88,5 @@ pub fn or_fitting(t: &[u32], known: Link, d: Dimensions, g: u32) -> Resolved
 pub fn resolve(t: &[u32], l: u16, op: ProductOp, r: u16, d: Dimensions, g: u32) -> Resolved
     ensures { λ v. ⌜ v ≡ resolved (rule.resolve (kindsOf (now (t .entry))) l op r (at d g)) ⌝ }
 {
-    or_fitting(t, known(t, l, op, r), d, g)
+    or_fitting(t, known_kind(t, l, op, r), d, g)
 }

@@ -1,68 +1,23 @@
 -- Of the kinds that fit, one is known: it is the only one, or there are several. Assumes nothing.
-use Prim.Native.Nat.{ℕ, zero, suc, _<_, _≤_}
+use Prim.Native.Nat.{ℕ, _<_, _≤_}
 use mathlib.Core.Path.{_≡_, refl, sym, _∙_}
 use mathlib.Core.Bool.{Bool, true, false, not, _&&_, and-false, true≢false}
 use mathlib.Core.List.{List, [], _∷_}
-use mathlib.Core.Logic.{⊎-elim}
 use mathlib.Core.Option.{Option, some, none}
-use native.Mathlib.Nat.{le-of-suc-le-suc, not-suc-le-zero, eq-or-lt-of-le}
 use native.Mathlib.Omega.{arith}
-use borrow.Author.Tests.{eqb-true, eqb-false, eq-eqb, ne-eqb, ltb-true, ltb-false, not-true, not-false}
+use borrow.Author.Tests.{eqb-false, ne-eqb, ltb-true, ltb-false, not-true, not-false}
 use lib.Dec.{eqb, ltb}
-use lib.ListN.{length, length-append}
+use lib.ListN.{length}
 use Rattle.laws.specs.Options.{isSome}
-use Rattle.laws.specs.Ranges.{first, picked, below}
+use Rattle.laws.specs.Ranges.{first, below}
 use Rattle.laws.proofs.Cases.{cond-then, cond-else, and-left, and-right}
 use Rattle.laws.proofs.First.{first-below, first-passes, first-misses}
-use Rattle.laws.proofs.Picked.{picked-same}
 use Rattle.rules.specs.Kinds.{Kinds, Graded, carries, fits, candidates}
 use Rattle.rules.specs.Table.{kindsOf, kindsIn}
 use Rattle.fitting.specs.Shown.{fitsBeside, besideOf}
 use Rattle.fitting.specs.declared.beside.Beside.{Beside}
 use Rattle.fitting.specs.declared.beside.Beside.the-variants.{Alone, Others, Unfit}
-
--- ---- one number alone
-picked-none : (r n : ℕ) → n ≤ r → picked (λ j. eqb j r) n ≡ []
-unfolding picked
-picked-none r zero h = refl
-picked-none r (suc n) h = rw (picked, ne-eqb n r (λ e. omega arith), picked-none r n (omega arith))
-
-picked-one : (r n : ℕ) → r < n → picked (λ j. eqb j r) n ≡ r ∷ []
-unfolding picked
-picked-one r zero h = absurd (not-suc-le-zero h)
-picked-one r (suc n) h =
-    ⊎-elim
-    (λ e. rw (picked, ← e, eq-eqb r r refl, picked-none r r (omega arith)))
-    (λ l. rw (picked, ne-eqb n r (λ e. omega arith), picked-one r n l))
-    (eq-or-lt-of-le (le-of-suc-le-suc h))
-
--- ---- two numbers that pass
-module _ (test : ℕ → Bool) where
-  one-more : (n : ℕ) → length (picked test n) ≤ length (picked test (suc n))
-  unfolding picked
-  one-more n = go (test n) refl
-    where
-      go : (b : Bool) → test n ≡ b → length (picked test n) ≤ length (picked test (suc n))
-      go true e = rw (picked, e, length-append) (omega arith)
-      go false e = rw (picked, e) (omega arith)
-
-  with-one : (i n : ℕ) → i < n → test i ≡ true → 1 ≤ length (picked test n)
-  unfolding picked
-  with-one i zero h e = absurd (not-suc-le-zero h)
-  with-one i (suc n) h e =
-      ⊎-elim
-      (λ q. rw (picked, ← q, e, length-append) (omega arith))
-      (λ l. omega (arith, with-one i n l e, one-more n))
-      (eq-or-lt-of-le (le-of-suc-le-suc h))
-
-  with-two : (i j n : ℕ) → i < j → j < n → test i ≡ true → test j ≡ true → 2 ≤ length (picked test n)
-  unfolding picked
-  with-two i j zero h k e f = absurd (not-suc-le-zero k)
-  with-two i j (suc n) h k e f =
-      ⊎-elim
-      (λ q. let w = with-one i j h e in rw (picked, ← q, f, length-append) (omega arith))
-      (λ l. omega (arith, with-two i j n h l e f, one-more n))
-      (eq-or-lt-of-le (le-of-suc-le-suc k))
+use Rattle.fitting.proofs.Few.{picked-one, with-two}
 
 -- ---- a kind that fits is one of the table
 fits-in : (t : List ℕ) (x : Graded) (k : ℕ) → fits (kindsOf t) x k ≡ true → k < kindsOf t .count
@@ -82,14 +37,10 @@ module _ (t : List ℕ) (x : Graded) (k : ℕ) (e : fits (kindsOf t) x k ≡ tru
 
   alone : first (fitsBeside K x k) (K .count) ≡ none → candidates K x ≡ k ∷ []
   unfolding fitsBeside
-  alone n = picked-same (fits K x) (λ j. eqb j k) (K .count) each ∙ picked-one k (K .count) (fits-in t x k e)
+  alone n = picked-one (fits K x) k (K .count) (fits-in t x k e) e other
     where
-      each : (j : ℕ) → j < K .count → fits K x j ≡ eqb j k
-      each j h = go (eqb j k) refl
-        where
-          go : (b : Bool) → eqb j k ≡ b → fits K x j ≡ b
-          go true q = rw (eqb-true j k q) e
-          go false q = let m : (not (eqb j k) && fits K x j) ≡ false = first-misses (fitsBeside K x k) (K .count) j n h in rw q at m
+      other : (j : ℕ) → j < K .count → (j ≡ k → ⊥) → fits K x j ≡ false
+      other j h d = let m : (not (eqb j k) && fits K x j) ≡ false = first-misses (fitsBeside K x k) (K .count) j n h in rw (ne-eqb j k d) at m
 
   several-kinds : {j : ℕ} → first (fitsBeside K x k) (K .count) ≡ some j → 2 ≤ length (candidates K x)
   unfolding fitsBeside

@@ -6,7 +6,7 @@ use mathlib.Core.Bool.{Bool, true, false, cond, not, _&&_, and-false}
 use mathlib.Core.List.{List}
 use mathlib.Core.Option.{some, none}
 use native.Mathlib.Omega.{arith}
-use borrow.Author.Tests.{lt-ltb, le-ltb, ltb-true, ltb-false, le-leb, lt-leb, eqb-true, eqb-false, not-true, not-false}
+use borrow.Author.Tests.{lt-ltb, le-ltb, ltb-true, ltb-false, le-leb, lt-leb, ne-eqb, eqb-true, eqb-false, not-true, not-false}
 use lib.Dec.{eqb, ltb, leb}
 use lib.ListN.{getD}
 use Rattle.laws.specs.Options.{isSome, found}
@@ -126,3 +126,12 @@ word-differs t w g k i {q} a b h e f = go (ltb k (kindsIn t)) refl
         let z : false ≡ D.equal (dimsFrom t (kindPlace k)) (dimsFrom w 0) = all-here (sameWord t (kindPlace k) w) i 24 h e (not-true q f) ∙ words-same t (kindPlace k) w a b in
         exponents-differ t w g k (ltb-true k (kindsIn t) l) z refl
     go false l = past-kinds t (at (dimsFrom w 0) g) k l
+
+-- ---- the grade differs: v is the word that says it
+pub grade-differs : (t : List ℕ) (d : Dimensions) (g k : ℕ) {v : ℕ} → v ≡ word t (kindPlace k + 25) → (v ≡ g → ⊥) → false ≡ K.fits (kindsOf t) (at d g) k
+unfolding K.fits K.carries kindsOf below
+grade-differs t d g k {v} e f = go (ltb k (kindsIn t)) refl
+  where
+    go : (x : Bool) → ltb k (kindsIn t) ≡ x → false ≡ K.fits (kindsOf t) (at d g) k
+    go true l = rw (l, ← e, ne-eqb v g f) (sym (and-false (not (isSome (indexOr (word t (kindPlace k + 27)))))))
+    go false l = past-kinds t (at d g) k l

@@ -8,10 +8,13 @@ use Rattle.laws.specs.Options.{isSome, found}
 use Rattle.laws.specs.Ranges.{first, overlay}
 use Rattle.dimension.specs.declared.dimensions.Dimensions.{Dimensions}
 use Rattle.rules.specs.Kinds.{Kinds, Graded, fits}
-use Rattle.rules.specs.Table.{word}
+use Rattle.rules.specs.Table.{word, kindPlace}
+use Rattle.rules.specs.Arithmetic as rule
 use Rattle.fitting.specs.declared.counted.Seen.{Seen}
 use Rattle.fitting.specs.declared.beside.Beside.{Beside}
 use Rattle.fitting.specs.declared.beside.Beside.the-variants.{Alone, Others, Unfit}
+use Rattle.fitting.specs.declared.sought.Several.{Several}
+use Rattle.fitting.specs.declared.sought.Several.the-variants.{Is, Many, Nothing}
 
 -- dimensions at a grade
 abbrev pub at : Dimensions → ℕ → Graded
@@ -20,6 +23,10 @@ at d g = record { dims = d; grade = g }
 -- ---- the words of a kind that begin at p, compared with those of dimensions
 unfoldable pub sameWord : List ℕ → ℕ → List ℕ → ℕ → Bool
 sameWord t p w i = eqb (word t (p + i)) (word w i)
+
+-- words a, a + 2 and a + 4 of kind k are those of dimensions
+unfoldable pub leadSame : List ℕ → List ℕ → ℕ → ℕ → Bool
+leadSame t w a k = sameWord t (kindPlace k) w a && sameWord t (kindPlace k) w (a + 2) && sameWord t (kindPlace k) w (a + 4)
 
 -- the numerator of base b, in the words of dimensions, is not zero
 unfoldable pub isThere : List ℕ → ℕ → Bool
@@ -52,3 +59,9 @@ fitsBeside K x k j = not (eqb j k) && fits K x j
 
 unfoldable pub besideOf : Kinds → Graded → ℕ → Beside
 besideOf K x k = cond (fits K x k) (cond (isSome (first (fitsBeside K x k) (K .count))) Others Alone) Unfit
+
+-- ---- a resolution, without the number of those that fit
+abbrev pub severalOf : rule.Resolved → Several
+severalOf (rule.is k) = Is k
+severalOf (rule.twins ks) = Many
+severalOf rule.nothing = Nothing

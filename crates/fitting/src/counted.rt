@@ -18,7 +18,7 @@ pub struct Seen {
     pub last: u16,
 }
 
-fn tally(t: &[u32], w: &[u32], g: u32, n: u16) -> Seen
+pub(crate) fn tally(t: &[u32], w: &[u32], g: u32, n: u16) -> Seen
     ensures { λ r. ⌜ r ≡ seen (picked (K.fits (kindsOf (now (t .entry))) (at (dimsFrom (now (w .entry)) 0) g)) n) ⌝ }
 {
     let first = pivot(w);

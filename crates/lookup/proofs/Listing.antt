@@ -16,7 +16,8 @@ use Rattle.error.specs.declared.cause.Error.{Error}
 use Rattle.error.specs.declared.answer.Verdict.{Verdict}
 use Rattle.error.specs.declared.answer.Verdict.the-variants as verdict
 use Rattle.fitting.specs.Shown.{at, roomListed}
-use Rattle.derive.specs.Shown.{dimsAt, derived}
+use Rattle.joined.specs.Shown.{dimsAt}
+use Rattle.derive.specs.Shown.{derived}
 use Rattle.derive.specs.declared.derivation.Derivation.{Derivation}
 use Rattle.derive.specs.declared.derivation.Ruling.the-variants.{Fine, Refused}
 use Rattle.derive.proofs.Derives.{fine-told, refused-told}

@@ -15,7 +15,7 @@ use Rattle.rules.specs.Refusal.{Placed}
 use Rattle.rules.specs.Arithmetic as rule
 use Rattle.rules.specs.Lookup as lone
 use Rattle.fitting.specs.Shown.{at}
-use Rattle.derive.specs.Shown.{dimsAt}
+use Rattle.joined.specs.Shown.{dimsAt}
 use Rattle.error.specs.declared.cause.Error.{Error}
 use Rattle.error.specs.declared.cause.Error.the-variants as cause
 use Rattle.error.specs.Shown.{shown}

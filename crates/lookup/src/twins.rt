@@ -12,7 +12,7 @@ ghost use Rattle.rules.specs.Kinds as K;
 ghost use Rattle.rules.specs.Table.{kindsOf};
 ghost use Rattle.dimension.specs.Dimension as D;
 ghost use Rattle.fitting.specs.Shown.{at, roomListed};
-ghost use Rattle.derive.specs.Shown.{dimsAt};
+ghost use Rattle.joined.specs.Shown.{dimsAt};
 ghost use Rattle.lookup.specs.Shown.{opBy, named, nameOf, fitsDerived, twinsOf};
 
 // What a refusal names: the left, operation and right of a product, the base and exponent of a power, or nothing.

@@ -19,7 +19,8 @@ use Rattle.error.specs.declared.answer.Verdict.the-variants.{Refused}
 use Rattle.error.specs.declared.answer.Link.{Link}
 use Rattle.error.specs.declared.cause.Error.the-variants as cause
 use Rattle.fitting.specs.Shown.{at}
-use Rattle.derive.specs.Shown.{dimsAt, resolved, unlinked}
+use Rattle.joined.specs.Shown.{dimsAt}
+use Rattle.derive.specs.Shown.{resolved, unlinked}
 use Rattle.derive.specs.declared.resolution.Resolved.{Resolved}
 use Rattle.derive.specs.declared.resolution.Resolved.the-variants.{Is, Twins, Nothing}
 use Rattle.derive.proofs.Resolves.{unlinked-linked, is-told, nothing-told, fitting-told}

@@ -1,13 +1,16 @@
 -- What the code's answers show of the rules' answers.
 use Prim.Native.Nat.{ℕ}
-use Rattle.laws.specs.Out.{refused, _>>=_, _>>_, refuseIf, needed, known}
+use mathlib.Core.Option.{Option, some, none}
+use Rattle.laws.specs.Out.{given, refused, _>>=_, _>>_, refuseIf, needed, known}
 use Rattle.dimension.specs.Dimension as D
 use Rattle.dimension.specs.declared.rational.Rational.{Rational}
 use Rattle.dimension.specs.declared.dimensions.Dimensions.{Dimensions}
 use Rattle.dimension.specs.declared.grade.ProductOp.{ProductOp}
-use Rattle.rules.specs.Kinds.{Kinds, Rows, Graded}
+use Rattle.rules.specs.Kinds.{Kinds, Rows, Graded, candidates}
 use Rattle.rules.specs.Refusal as rule
 use Rattle.rules.specs.Arithmetic as arithmetic
+use Rattle.joined.specs.Shown.{dimsAt}
+use Rattle.fitting.specs.Shown.{at}
 use Rattle.error.specs.Shown.{shown, answer}
 use Rattle.error.specs.declared.cause.Error.{Error}
 use Rattle.error.specs.declared.answer.Answer.{Answer}
@@ -24,7 +27,21 @@ kindAs k = answer (Kind k) 0 D.one
 abbrev pub no : Error → Answer
 no e = answer (Refused e) 0 D.one
 
+-- the kind that is answered
+abbrev pub kindIn : rule.Answer ℕ → Option ℕ
+kindIn (given k) = some k
+kindIn (refused x) = none
+
 -- ---- the rules from where the code goes on
+-- a product of this grade
+abbrev pub joinedAs : Kinds → ℕ → ProductOp → ℕ → ℕ → Graded
+joinedAs K l op r g = at (arithmetic.joined op (dimsAt K l) (dimsAt K r)) g
+
+-- a product, from the kinds that fit
+abbrev pub fittedAs : Kinds → Rows → ℕ → ProductOp → ℕ → Graded → rule.Answer ℕ
+fittedAs K R l op r x =
+    arithmetic.settle (arithmetic.fitting (candidates K x)) (rule.NoProductKind x) (λ ks. known (R l op r) (refused (rule.UnresolvedTwin l op r ks)))
+
 -- a product whose dimensions and grade are derived
 abbrev pub settledAs : Kinds → Rows → ℕ → ProductOp → ℕ → Graded → rule.Answer ℕ
 settledAs K R l op r x =
@@ -35,6 +52,10 @@ abbrev pub raisedAs : Kinds → ℕ → Rational → Dimensions → rule.Answer 
 raisedAs K k e d =
     arithmetic.settle (arithmetic.orFitting K (arithmetic.neutralPower K k e) (record { dims = d; grade = 0 })) (rule.NoPowerKind d)
     (λ ks. refused (rule.UnresolvedPowerTwin k e ks))
+
+-- the same, from the kinds that fit
+abbrev pub fittedPower : Kinds → ℕ → Rational → Dimensions → rule.Answer ℕ
+fittedPower K k e d = arithmetic.settle (arithmetic.fitting (candidates K (at d 0))) (rule.NoPowerKind d) (λ ks. refused (rule.UnresolvedPowerTwin k e ks))
 
 -- a power of a kind that has these dimensions
 abbrev pub overAs : Kinds → ℕ → Rational → Dimensions → rule.Answer ℕ

@@ -2,6 +2,7 @@
 use crate::answers::kind;
 use crate::answers::refused;
 use crate::answers::refused_with;
+use crate::kinds::power_kind;
 use crate::sums::unsupported;
 use derive::Resolved;
 use derive::neutral_power;
@@ -10,6 +11,7 @@ use dimension::Dimensions;
 use dimension::Rational;
 use error::Answer;
 use error::Error;
+use error::Link;
 use table::dims_of;
 use table::grade_of;
 use table::is_point;
@@ -32,6 +34,9 @@ fn twins(k: u16, e: Rational, n: u16) -> Answer
 fn raised_to(t: &[u32], k: u16, e: Rational, d: Dimensions) -> Answer
     ensures { λ v. ⌜ v ≡ looked (raisedAs (kindsOf (now (t .entry))) k e d) ⌝ }
 {
+    if let Link::To(m) = power_kind(t, k, e, d) {
+        return kind(m);
+    }
     match or_fitting(t, neutral_power(t, k, e), d, 0) {
         Resolved::Is(m) => kind(m),
         Resolved::Twins(n) => twins(k, e, n),

@@ -2,6 +2,7 @@
 use crate::answers::kind;
 use crate::answers::refused;
 use crate::answers::refused_with;
+use crate::kinds::product_kind;
 use derive::Resolved;
 use derive::Ruling;
 use derive::derive;
@@ -43,9 +44,13 @@ fn settled(t: &[u32], rows: &[u32], l: u16, op: ProductOp, r: u16, d: Dimensions
     }
 }
 
+// The kind comes first: why there is none is looked for only then.
 pub fn product(t: &[u32], rows: &[u32], l: u16, op: ProductOp, r: u16) -> Answer
     ensures { λ v. ⌜ v ≡ looked (rule.product (kindsOf (now (t .entry))) (rowsOf (now (rows .entry))) l op r) ⌝ }
 {
+    if let Link::To(k) = product_kind(t, rows, l, op, r) {
+        return kind(k);
+    }
     let x = derive(t, l, op, r);
     let ruling = x.ruling;
     if let Ruling::Refused(e) = ruling {

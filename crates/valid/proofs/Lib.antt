@@ -6,4 +6,3 @@ pub mod Own
 -- on the way there
 mod Ands
 mod Tables
-mod Wholes

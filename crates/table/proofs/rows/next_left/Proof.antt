@@ -8,7 +8,7 @@ use native.Mathlib.Omega.{arith}
 use Rattle.laws.specs.Ranges.{firstFrom}
 use borrow.Author.Tests.{ne-eqb}
 use Rattle.table.specs.Shown.{leftIs}
-use Rattle.table.proofs.Scanned.{span-next}
+use Rattle.table.proofs.Spans.{span-next}
 use Rattle.table.proofs.rows.next_left.Statement.{statement}
 use Rattle.table.proofs.rows.next_left.Tie as tie
 

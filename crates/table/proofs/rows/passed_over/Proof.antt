@@ -9,7 +9,7 @@ use Rattle.laws.specs.Ranges.{firstFrom}
 use Rattle.laws.proofs.Cases.{not-then}
 use Rattle.laws.proofs.FirstFrom.{none-there}
 use Rattle.table.specs.Shown.{leftIs}
-use Rattle.table.proofs.Scanned.{span-none, span-more}
+use Rattle.table.proofs.Spans.{span-none, span-more}
 use Rattle.table.proofs.rows.passed_over.Statement.{statement}
 use Rattle.table.proofs.rows.passed_over.Tie as tie
 

@@ -11,7 +11,7 @@ use Rattle.laws.specs.Ranges.{all}
 use Rattle.laws.proofs.All.{alls}
 use Rattle.dimension.specs.Fraction as F
 use Rattle.rules.specs.Table as T
-use Rattle.valid.proofs.Wholes.{all-whole-fine}
+use Rattle.joined.proofs.Wholes.{all-whole-fine}
 use Rattle.valid.proofs.exponents.exponents_fine.Statement.{statement}
 use Rattle.valid.proofs.exponents.exponents_fine.Tie as tie
 
@@ -28,8 +28,8 @@ returns c = search (cases, needs)
 returns-2 : tie.Need-returns-2 Inv-loop μ-loop
 unfolding T.exponentsFine
 returns-2 c =
-    let s = c .before .before .before .before .before .before in
-    let z = all-whole-fine (s .args .t .now) (s .args .p) (λ i. omega (arith, c .before .before .before .before .before .shared-slice-known .given i)) (c .before .all-whole .ensures) (c .if3 .taken) in
+    let s = c .before .before .before .before .before in
+    let z = all-whole-fine (s .args .t .now) (s .args .p) (λ i. omega (arith, c .before .before .before .before .shared-slice-known .given i)) (c .before .whole-from .ensures) (c .if2 .taken) in
     search (cases, sym z, needs) depth 7
 
 returns-3 : tie.Need-returns-3 Inv-loop μ-loop
@@ -48,4 +48,4 @@ unfolding T.exponentsFine
 returns-4 c = search (cases, alls, needs) depth 7
 
 pub exponents-fine-spec : {M : Type 1} → statement M
-exponents-fine-spec = tie.close (tie.spec Inv-loop μ-loop (search needs) (search needs) returns (search needs) (λ c κs. search needs) returns-2 (λ c. search (alls, needs)) (search needs) (search needs) returns-3 (search needs) (search needs) loop-again returns-4)
+exponents-fine-spec = tie.close (tie.spec Inv-loop μ-loop (search needs) (search needs) returns (λ c κs. search needs) returns-2 (λ c. search (alls, needs)) (search needs) (search needs) returns-3 (search needs) (search needs) loop-again returns-4)

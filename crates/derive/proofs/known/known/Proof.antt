@@ -1,9 +1,0 @@
--- `derive::known::known` meets its contract: one link, or else the other.
--- Assumes nothing.
-use borrow.Author.Needs.{needs}
-use Rattle.table.proofs.Links.{links}
-use Rattle.derive.proofs.known.known.Statement.{statement}
-use Rattle.derive.proofs.known.known.Tie as tie
-
-pub known-spec : {M : Type 1} → statement M
-known-spec = tie.close (tie.spec (search needs) (search needs) (search needs) (search needs) (λ c. search (links, needs)) (λ c. search (links, needs)))
