@@ -29,7 +29,7 @@ pub enum Several {
 fn are_same(t: &[u32], k: usize, a: usize, x: u32, y: u32, z: u32) -> bool
     requires { ⌜ k < 240 ⌝ }
     requires { ⌜ a < 20 ⌝ }
-    requires { ⌜ 16 + 32 * k + 32 ≤ length (now t) ⌝ }
+    requires { ⌜ kindPlace (k + 1) ≤ length (now t) ⌝ }
     ensures { λ v. ⌜ v ≡ (eqb (word (now (t .entry)) (kindPlace k + a)) x && eqb (word (now (t .entry)) (kindPlace k + a + 2)) y && eqb (word (now (t .entry)) (kindPlace k + a + 4)) z) ⌝ }
 {
     let p = KINDS + KIND * k + a;
@@ -38,7 +38,7 @@ fn are_same(t: &[u32], k: usize, a: usize, x: u32, y: u32, z: u32) -> bool
 
 // The first kind from `from` on, of the first n, whose numerators at a and of the two bases behind it are those of w, or n.
 fn next_same(t: &[u32], w: &[u32], from: usize, n: usize, a: usize) -> usize
-    requires { ⌜ 16 + 32 * n ≤ length (now t) ⌝ }
+    requires { ⌜ kindPlace n ≤ length (now t) ⌝ }
     requires { ⌜ 24 ≤ length (now w) ⌝ }
     requires { ⌜ a < 20 ⌝ }
     requires { ⌜ n ≤ 240 ⌝ }
@@ -62,7 +62,7 @@ fn next_same(t: &[u32], w: &[u32], from: usize, n: usize, a: usize) -> usize
 // Whether kind k, whose words are all there, fits. The grade is asked first: it tells many apart whose first exponents are the same.
 fn fits_within(t: &[u32], k: usize, w: &[u32], g: u32) -> bool
     requires { ⌜ k < 240 ⌝ }
-    requires { ⌜ 16 + 32 * k + 32 ≤ length (now t) ⌝ }
+    requires { ⌜ kindPlace (k + 1) ≤ length (now t) ⌝ }
     ensures { λ v. ⌜ v ≡ K.fits (kindsOf (now (t .entry))) (at (dimsFrom (now (w .entry)) 0) g) k ⌝ }
 {
     if t[KINDS + KIND * k + GRADE] != g {
@@ -73,7 +73,7 @@ fn fits_within(t: &[u32], k: usize, w: &[u32], g: u32) -> bool
 
 // The first kind from `from` on, of the first n, that fits, or n.
 fn next_fit(t: &[u32], w: &[u32], g: u32, from: usize, n: usize, a: usize) -> usize
-    requires { ⌜ 16 + 32 * n ≤ length (now t) ⌝ }
+    requires { ⌜ kindPlace n ≤ length (now t) ⌝ }
     requires { ⌜ 24 ≤ length (now w) ⌝ }
     requires { ⌜ a < 20 ⌝ }
     requires { ⌜ n ≤ 240 ⌝ }
