@@ -22,10 +22,10 @@ use Rattle.error.specs.declared.answer.Link.{Link}
 use Rattle.error.specs.declared.answer.Link.the-variants.{To, Nowhere}
 use Rattle.error.specs.declared.cause.Error.{Error}
 use Rattle.error.specs.declared.cause.Error.the-variants as cause
-use Rattle.fitting.specs.Shown.{at, severalOf}
-use Rattle.fitting.specs.declared.sought.Several.{Several}
-use Rattle.fitting.specs.declared.sought.Several.the-variants as several
-use Rattle.derive.specs.Shown.{derived}
+use Rattle.fitting.specs.Shown.{at}
+use Rattle.derive.specs.declared.resolution.Several.{Several}
+use Rattle.derive.specs.declared.resolution.Several.the-variants as several
+use Rattle.derive.specs.Shown.{derived, severalOf}
 use Rattle.derive.specs.declared.derivation.Derivation.{Derivation}
 use Rattle.derive.specs.declared.derivation.Ruling.the-variants as ruling
 use Rattle.derive.proofs.Derives.{fine-told, refused-told, plain-refusal}

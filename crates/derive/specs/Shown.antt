@@ -1,7 +1,6 @@
 -- What the code's answers show of the rules'.
 use Prim.Native.Nat.{ℕ}
 use mathlib.Core.Option.{Option, some, none}
-use lib.ListN.{length}
 use Rattle.laws.specs.Out.{given, refused}
 use Rattle.dimension.specs.Dimension as D
 use Rattle.dimension.specs.declared.dimensions.Dimensions.{Dimensions}
@@ -13,13 +12,11 @@ use Rattle.error.specs.declared.cause.Error.{Error}
 use Rattle.derive.specs.declared.derivation.Ruling.the-variants.{Fine, Refused}
 use Rattle.error.specs.declared.answer.Link.{Link}
 use Rattle.error.specs.declared.answer.Link.the-variants.{To, Nowhere}
-use Rattle.fitting.specs.declared.sought.Several.{Several}
-use Rattle.fitting.specs.declared.sought.Several.the-variants as several
 use Rattle.derive.specs.declared.derivation.Derivation.{Derivation}
 use Rattle.derive.specs.declared.derivation.GradeRuling.{GradeRuling}
 use Rattle.derive.specs.declared.derivation.GradeRuling.the-variants as ruled
-use Rattle.derive.specs.declared.resolution.Resolved.{Resolved}
-use Rattle.derive.specs.declared.resolution.Resolved.the-variants.{Is, Twins, Nothing}
+use Rattle.derive.specs.declared.resolution.Several.{Several}
+use Rattle.derive.specs.declared.resolution.Several.the-variants.{Is, Many, Nothing}
 
 -- ---- a derivation: its grade alone, and with dimensions
 abbrev pub ruledAs : Answer Graded → GradeRuling
@@ -36,17 +33,11 @@ abbrev pub derived : Answer Graded → Derivation
 derived (given x) = givenAs (x .dims) (x .grade)
 derived (refused x) = refusedAs (errorOf x)
 
--- ---- a resolution
-abbrev pub resolved : rule.Resolved → Resolved
-resolved (rule.is k) = Is k
-resolved (rule.twins ks) = Twins (length ks)
-resolved rule.nothing = Nothing
-
--- without the number of those that fit
-abbrev pub uncountedOf : Resolved → Several
-uncountedOf (Is k) = several.Is k
-uncountedOf (Twins n) = several.Many
-uncountedOf Nothing = several.Nothing
+-- ---- a resolution, without the kinds that fit
+abbrev pub severalOf : rule.Resolved → Several
+severalOf (rule.is k) = Is k
+severalOf (rule.twins ks) = Many
+severalOf rule.nothing = Nothing
 
 -- ---- a link as the rules' option
 abbrev pub unlinked : Link → Option ℕ

@@ -12,7 +12,5 @@ pub use derivation::op_code;
 pub use derivation::ruled;
 pub use known::known_kind;
 pub use known::neutral_power;
-pub use resolution::Resolved;
-pub use resolution::or_fitting;
-pub use resolution::resolve;
+pub use resolution::Several;
 pub use resolution::resolve_by;

@@ -11,13 +11,11 @@ use lib.Dec.{eqb, ltb}
 use Rattle.laws.specs.Ranges.{firstFrom}
 use Rattle.laws.proofs.Cases.{not-then}
 use Rattle.rules.specs.Kinds.{Kinds, Graded, fits, candidates}
-use Rattle.rules.specs.Arithmetic as rule
 use Rattle.rules.specs.Table.{word, kindsOf, kindPlace, dimsFrom}
 use Rattle.table.proofs.Spans.{span-more, span-misses, fails-both}
-use Rattle.fitting.specs.Shown.{at, sameWord, leadSame, severalOf}
-use Rattle.fitting.specs.declared.sought.Several.the-variants.{Is, Many, Nothing}
-use Rattle.fitting.proofs.Few.{picked-none, picked-one, with-two}
-use Rattle.fitting.proofs.Severals.{several-long}
+use Rattle.fitting.specs.Shown.{at, sameWord, leadSame, fitOf}
+use Rattle.fitting.specs.declared.sought.Fit.the-variants.{Only, Second, Nothing}
+use Rattle.fitting.proofs.Few.{picked-none, picked-one, picked-two}
 use Rattle.fitting.proofs.Worded.{word-differs}
 
 -- ---- the code's test of kind k
@@ -57,19 +55,19 @@ module _ (t w : List ℕ) (g a : ℕ) (s : (j : ℕ) → word t j < 4294967296) 
 
 -- ---- what was found, n the count
 module _ (K : Kinds) (x : Graded) {n : ℕ} (c : n ≡ K .count) (i : ℕ) (e : firstFrom (fits K x) 0 (i - 0) ≡ none) where
-  pub only-none : n ≤ i → Nothing ≡ severalOf (rule.fitting (candidates K x))
-  only-none h = rw (picked-none (fits K x) (K .count) (λ k l. span-misses (fits K x) 0 (i - 0) k e (omega arith) (omega (arith, c))))
+  pub found-none : n ≤ i → Nothing ≡ fitOf (candidates K x)
+  found-none h = rw (picked-none (fits K x) (K .count) (λ k l. span-misses (fits K x) 0 (i - 0) k e (omega arith) (omega (arith, c))))
 
-  module _ (h : i < n) (p : fits K x i ≡ true) (j : ℕ) (l : i + 1 ≤ j) where
-    pub only-many : j < n → fits K x j ≡ true → Many ≡ severalOf (rule.fitting (candidates K x))
-    only-many m q = several-long (candidates K x) (with-two (fits K x) i j (K .count) (omega arith) (omega (arith, c)) p q)
-
-    pub only-one : n ≤ j → firstFrom (fits K x) (i + 1) (j - (i + 1)) ≡ none → Is i ≡ severalOf (rule.fitting (candidates K x))
-    only-one m f = rw (picked-one (fits K x) i (K .count) (omega (arith, c)) p other)
+  module _ (h : i < n) (p : fits K x i ≡ true) (j : ℕ) (l : i + 1 ≤ j) (f : firstFrom (fits K x) (i + 1) (j - (i + 1)) ≡ none) where
+    other : (k : ℕ) → k < j → (k ≡ i → ⊥) → fits K x k ≡ false
+    other k o d = go (ltb k i) refl
       where
-        other : (k : ℕ) → k < K .count → (k ≡ i → ⊥) → fits K x k ≡ false
-        other k o d = go (ltb k i) refl
-          where
-            go : (b : Bool) → ltb k i ≡ b → fits K x k ≡ false
-            go true q = let b = ltb-true k i q in span-misses (fits K x) 0 (i - 0) k e (omega arith) (omega arith)
-            go false q = let b = ltb-false k i q in span-misses (fits K x) (i + 1) (j - (i + 1)) k f (omega (arith, d)) (omega (arith, c))
+        go : (b : Bool) → ltb k i ≡ b → fits K x k ≡ false
+        go true q = let b = ltb-true k i q in span-misses (fits K x) 0 (i - 0) k e (omega arith) (omega arith)
+        go false q = let b = ltb-false k i q in span-misses (fits K x) (i + 1) (j - (i + 1)) k f (omega (arith, d)) (omega arith)
+
+    pub found-second : j < n → fits K x j ≡ true → Second j ≡ fitOf (candidates K x)
+    found-second m q = rw (picked-two (fits K x) i j (K .count) (omega arith) (omega (arith, c)) p q other .1)
+
+    pub found-only : n ≤ j → Only i ≡ fitOf (candidates K x)
+    found-only m = rw (picked-one (fits K x) i (K .count) (omega (arith, c)) p (λ k o d. other k (omega (arith, c)) d))

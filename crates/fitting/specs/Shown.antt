@@ -5,16 +5,14 @@ use mathlib.Core.List.{List, [], _∷_}
 use lib.Dec.{eqb, ltb}
 use lib.ListN.{length}
 use Rattle.laws.specs.Options.{isSome, found}
-use Rattle.laws.specs.Ranges.{first, overlay}
+use Rattle.laws.specs.Ranges.{first, picked, overlay}
 use Rattle.dimension.specs.declared.dimensions.Dimensions.{Dimensions}
 use Rattle.rules.specs.Kinds.{Kinds, Graded, fits}
 use Rattle.rules.specs.Table.{word, kindPlace}
-use Rattle.rules.specs.Arithmetic as rule
-use Rattle.fitting.specs.declared.counted.Seen.{Seen}
 use Rattle.fitting.specs.declared.beside.Beside.{Beside}
 use Rattle.fitting.specs.declared.beside.Beside.the-variants.{Alone, Others, Unfit}
-use Rattle.fitting.specs.declared.sought.Several.{Several}
-use Rattle.fitting.specs.declared.sought.Several.the-variants.{Is, Many, Nothing}
+use Rattle.fitting.specs.declared.sought.Fit.{Fit}
+use Rattle.fitting.specs.declared.sought.Fit.the-variants.{Only, Second, Nothing}
 
 -- dimensions at a grade
 abbrev pub at : Dimensions → ℕ → Graded
@@ -36,15 +34,7 @@ isThere w b = not (eqb (word w (2 * b)) 0)
 unfoldable pub pivotOf : List ℕ → ℕ
 pivotOf w = found (first (isThere w) 12) (λ b. 2 * b) 0
 
--- ---- kinds that fit: how many, and the last of them
-abbrev pub lastOf : List ℕ → ℕ
-lastOf [] = 0
-lastOf (k ∷ []) = k
-lastOf (k ∷ m ∷ l) = lastOf (m ∷ l)
-
-abbrev pub seen : List ℕ → Seen
-seen l = record { count = length l; last = lastOf l }
-
+-- ---- kinds that fit
 -- a lent list with these in front
 abbrev pub listed : List ℕ → List ℕ → List ℕ
 listed ks old = overlay ks old
@@ -60,8 +50,15 @@ fitsBeside K x k j = not (eqb j k) && fits K x j
 unfoldable pub besideOf : Kinds → Graded → ℕ → Beside
 besideOf K x k = cond (fits K x k) (cond (isSome (first (fitsBeside K x k) (K .count))) Others Alone) Unfit
 
--- ---- a resolution, without the number of those that fit
-abbrev pub severalOf : rule.Resolved → Several
-severalOf (rule.is k) = Is k
-severalOf (rule.twins ks) = Many
-severalOf rule.nothing = Nothing
+-- ---- of the kinds that fit: the only one, the second of several, or none
+abbrev pub fitOf : List ℕ → Fit
+fitOf [] = Nothing
+fitOf (k ∷ []) = Only k
+fitOf (k ∷ m ∷ ks) = Second m
+
+-- how many fit, where k is the second of them: two, and those past k
+unfoldable pub fitsPast : Kinds → Graded → ℕ → ℕ → Bool
+fitsPast K x k j = ltb k j && fits K x j
+
+unfoldable pub twinsFrom : Kinds → Graded → ℕ → ℕ
+twinsFrom K x k = 2 + length (picked (fitsPast K x k) (K .count))

@@ -1,6 +1,5 @@
-// The only kind that fits dimensions at a grade, sought until a second does.
+// The only kind that fits dimensions at a grade, sought until a second does; and from there on how many do.
 use crate::compared::pivot;
-use crate::counted::tally;
 use crate::kind::fits_whole;
 use table::GRADE;
 use table::KIND;
@@ -15,13 +14,12 @@ ghost use lib.ListN.{length};
 ghost use Rattle.laws.specs.Ranges.{firstFrom};
 ghost use Rattle.rules.specs.Kinds as K;
 ghost use Rattle.rules.specs.Table.{word, kindsOf, kindPlace, dimsFrom};
-ghost use Rattle.rules.specs.Arithmetic as rule;
-ghost use Rattle.fitting.specs.Shown.{at, leadSame, severalOf};
+ghost use Rattle.fitting.specs.Shown.{at, leadSame, fitOf, twinsFrom};
 
-// The one kind that fits, that there are several, or none.
-pub enum Several {
-    Is(u16),
-    Many,
+// The only kind that fits, the second of several, at which the search ended, or none.
+pub enum Fit {
+    Only(u16),
+    Second(u16),
     Nothing,
 }
 
@@ -71,8 +69,8 @@ fn fits_within(t: &[u32], k: usize, w: &[u32], g: u32) -> bool
     fits_whole(t, k as u16, w, g)
 }
 
-// The first kind from `from` on, of the first n, that fits, or n.
-fn next_fit(t: &[u32], w: &[u32], g: u32, from: usize, n: usize, a: usize) -> usize
+// The first kind from `from` on, of the first n, whose words are all there, that fits, or n.
+fn next_within(t: &[u32], w: &[u32], g: u32, from: usize, n: usize, a: usize) -> usize
     requires { ⌜ kindPlace n ≤ length (now t) ⌝ }
     requires { ⌜ 24 ≤ length (now w) ⌝ }
     requires { ⌜ a < 20 ⌝ }
@@ -103,35 +101,68 @@ fn lead(w: &[u32]) -> usize
     p
 }
 
-// By how many fit, whatever words are missing.
-fn by_count(t: &[u32], w: &[u32], g: u32) -> Several
-    ensures { λ v. ⌜ v ≡ severalOf (rule.fitting (K.candidates (kindsOf (now (t .entry))) (at (dimsFrom (now (w .entry)) 0) g))) ⌝ }
+// The same where words may be missing.
+fn next_read(t: &[u32], w: &[u32], g: u32, from: usize, n: usize) -> usize
+    requires { ⌜ n ≤ 240 ⌝ }
+    requires { ⌜ from ≤ n ⌝ }
+    ensures { λ v. ⌜ (from ≤ v) × (v ≤ n) ⌝ }
+    ensures { λ v. ⌜ firstFrom (K.fits (kindsOf (now (t .entry))) (at (dimsFrom (now (w .entry)) 0) g)) from (v - from) ≡ none ⌝ }
+    ensures { λ v. ⌜ (v < n → K.fits (kindsOf (now (t .entry))) (at (dimsFrom (now (w .entry)) 0) g) v ≡ true) ⌝ }
 {
-    let seen = tally(t, w, g, kind_count(t));
-    if seen.count == 0 {
-        return Several::Nothing;
+    let mut k = from;
+    while k < n {
+        if fits_whole(t, k as u16, w, g) {
+            return k;
+        }
+        k += 1;
     }
-    if seen.count == 1 {
-        return Several::Is(seen.last);
-    }
-    Several::Many
+    k
 }
 
-// The one kind that fits, that there are several, or none. The search ends at the second that fits.
-pub fn only(t: &[u32], w: &[u32], g: u32) -> Several
-    ensures { λ v. ⌜ v ≡ severalOf (rule.fitting (K.candidates (kindsOf (now (t .entry))) (at (dimsFrom (now (w .entry)) 0) g))) ⌝ }
+// The first kind from `from` on, of the first n, that fits, or n.
+fn next_fit(t: &[u32], w: &[u32], g: u32, from: usize, n: usize) -> usize
+    requires { ⌜ n ≤ 240 ⌝ }
+    requires { ⌜ from ≤ n ⌝ }
+    ensures { λ v. ⌜ (from ≤ v) × (v ≤ n) ⌝ }
+    ensures { λ v. ⌜ firstFrom (K.fits (kindsOf (now (t .entry))) (at (dimsFrom (now (w .entry)) 0) g)) from (v - from) ≡ none ⌝ }
+    ensures { λ v. ⌜ (v < n → K.fits (kindsOf (now (t .entry))) (at (dimsFrom (now (w .entry)) 0) g) v ≡ true) ⌝ }
+{
+    if (w.len() < 24) | (t.len() < KINDS + KIND * n) {
+        return next_read(t, w, g, from, n);
+    }
+    next_within(t, w, g, from, n, lead(w))
+}
+
+// The only kind that fits, or the second of several, or none.
+pub fn only_fit(t: &[u32], w: &[u32], g: u32) -> Fit
+    ensures { λ v. ⌜ v ≡ fitOf (K.candidates (kindsOf (now (t .entry))) (at (dimsFrom (now (w .entry)) 0) g)) ⌝ }
 {
     let n = kind_count(t) as usize;
-    if (w.len() < 24) | (t.len() < KINDS + KIND * n) {
-        return by_count(t, w, g);
-    }
-    let a = lead(w);
-    let i = next_fit(t, w, g, 0, n, a);
+    let i = next_fit(t, w, g, 0, n);
     if n <= i {
-        return Several::Nothing;
+        return Fit::Nothing;
     }
-    if next_fit(t, w, g, i + 1, n, a) < n {
-        return Several::Many;
+    let j = next_fit(t, w, g, i + 1, n);
+    if j < n {
+        return Fit::Second(j as u16);
     }
-    Several::Is(i as u16)
+    Fit::Only(i as u16)
+}
+
+// How many kinds fit, where k is the second of them: the search goes on past it.
+pub fn twins_from(t: &[u32], w: &[u32], g: u32, k: u16) -> u16
+    ensures { λ v. ⌜ v ≡ twinsFrom (kindsOf (now (t .entry))) (at (dimsFrom (now (w .entry)) 0) g) k ⌝ }
+{
+    let n = kind_count(t) as usize;
+    let from = k as usize + 1;
+    if n < from {
+        return 2;
+    }
+    let mut count: u16 = 2;
+    let mut j = next_fit(t, w, g, from, n);
+    while j < n {
+        count += 1;
+        j = next_fit(t, w, g, j + 1, n);
+    }
+    count
 }

@@ -3,5 +3,3 @@ pub mod Answered
 pub mod Settled
 pub mod Raised
 pub mod Coded
--- on the way there
-mod Kindly

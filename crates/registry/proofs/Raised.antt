@@ -1,6 +1,6 @@
 -- A power's answer: one law a return. Assumes nothing.
 use Prim.Native.Nat.{ℕ}
-use mathlib.Core.Path.{_≡_, refl, _∙_, ap}
+use mathlib.Core.Path.{_≡_, refl}
 use mathlib.Core.Bool.{Bool, true, false, not}
 use mathlib.Core.Option.{Option, some, none}
 use borrow.Author.Tests.{eq-eqb, ne-eqb, not-true, not-false}
@@ -10,21 +10,22 @@ use Rattle.dimension.specs.Dimension as D
 use Rattle.dimension.specs.declared.rational.Rational.{Rational}
 use Rattle.dimension.specs.declared.dimensions.Dimensions.{Dimensions}
 use Rattle.dimension.specs.declared.dimensions.Outcome.{Outcome}
-use Rattle.rules.specs.Kinds.{Kinds, point}
+use Rattle.rules.specs.Kinds.{Kinds, point, candidates}
 use Rattle.rules.specs.Refusal.{told}
 use Rattle.rules.specs.Arithmetic as rule
 use Rattle.error.specs.Shown.{answer, linked}
 use Rattle.error.specs.declared.answer.Answer.{Answer}
 use Rattle.error.specs.declared.answer.Verdict.the-variants.{Refused}
 use Rattle.error.specs.declared.answer.Link.{Link}
+use Rattle.error.specs.declared.answer.Link.the-variants.{To, Nowhere}
+use Rattle.table.proofs.Links.{to-some, nowhere-none}
 use Rattle.error.specs.declared.cause.Error.the-variants as cause
-use Rattle.fitting.specs.Shown.{at}
+use Rattle.fitting.specs.Shown.{at, fitOf, twinsFrom}
+use Rattle.fitting.specs.declared.sought.Fit.{Fit}
+use Rattle.fitting.specs.declared.sought.Fit.the-variants.{Only, Second, Nothing}
+use Rattle.fitting.proofs.Twins.{fitting-only, fitting-second, fitting-nothing, twins-counted}
 use Rattle.joined.specs.Shown.{dimsAt}
-use Rattle.derive.specs.Shown.{resolved, unlinked}
-use Rattle.derive.specs.declared.resolution.Resolved.{Resolved}
-use Rattle.derive.specs.declared.resolution.Resolved.the-variants.{Is, Twins, Nothing}
-use Rattle.derive.proofs.Resolves.{unlinked-linked, is-told, nothing-told, fitting-told}
-use Rattle.registry.specs.Shown.{looked, kindAs, no, raisedAs, overAs}
+use Rattle.registry.specs.Shown.{looked, kindAs, no, raisedAs, fittedPower, overAs}
 
 is-none : (a : Option Dimensions) {b : Bool} → b ≡ isSome a → not b ≡ true → a ≡ none
 is-none (some x) {b} t p = let z : b ≡ false = not-true b p in cc
@@ -34,24 +35,29 @@ is-some : (a : Option Dimensions) {b : Bool} → b ≡ isSome a → not b ≡ fa
 is-some (some x) t p = refl
 is-some none {b} t p = let z : b ≡ true = not-false b p in cc
 
--- what is known is what the rules know
-as-known : (K : Kinds) (o : Option ℕ) (d : Dimensions) {u : Link} {w : Resolved} → u ≡ linked o → w ≡ resolved (rule.orFitting K (unlinked u) (at d 0)) → w ≡ resolved (rule.orFitting K o (at d 0))
-as-known K o d q f = f ∙ ap (λ (x : Option ℕ). resolved (rule.orFitting K x (at d 0))) (ap unlinked q ∙ unlinked-linked o)
-
 module _ (K : Kinds) (k : ℕ) (e : Rational) {v : Answer} where
-  -- ---- the kind of these dimensions: u is what is known, w what it comes to
-  module _ (d : Dimensions) {u : Link} (q : u ≡ linked (rule.neutralPower K k e)) {w : Resolved} (f : w ≡ resolved (rule.orFitting K (unlinked u) (at d 0))) where
-    pub raised-is : {m : ℕ} → w ≡ Is m → v ≡ kindAs m → v ≡ looked (raisedAs K k e d)
+  -- ---- the only kind that fits these dimensions: c is what the words stand for, w what was found
+  module _ (d : Dimensions) {c : Dimensions} (q : c ≡ d) {w : Fit} (f : w ≡ fitOf (candidates K (at c 0))) where
+    pub fitted-only : {m : ℕ} → w ≡ Only m → v ≡ kindAs m → v ≡ looked (fittedPower K k e d)
     unfolding looked
-    raised-is p h = rw (is-told (rule.orFitting K (rule.neutralPower K k e) (at d 0)) p (as-known K (rule.neutralPower K k e) d q f)) h
+    fitted-only p h = rw (← q, fitting-only (candidates K (at c 0)) p f) h
 
-    pub raised-several : {n : ℕ} → w ≡ Twins n → v ≡ no (cause.UnresolvedPowerTwin k (e .num) (e .den) n) → v ≡ looked (raisedAs K k e d)
+    pub fitted-several : {m n : ℕ} → w ≡ Second m → n ≡ twinsFrom K (at c 0) m → v ≡ no (cause.UnresolvedPowerTwin k (e .num) (e .den) n) → v ≡ looked (fittedPower K k e d)
     unfolding looked told
-    raised-several {n} p h = let s = fitting-told K (rule.neutralPower K k e) (at d 0) p (as-known K (rule.neutralPower K k e) d q f) in rw (s .0, ← s .1) h
+    fitted-several p s h = rw (← q, fitting-second (candidates K (at c 0)) p f, ← twins-counted K (at c 0) p f, ← s) h
 
-    pub raised-none : w ≡ Nothing → v ≡ answer (Refused cause.NoPowerKind) 0 d → v ≡ looked (raisedAs K k e d)
+    pub fitted-none : {y : Dimensions} → w ≡ Nothing → y ≡ c → v ≡ answer (Refused cause.NoPowerKind) 0 y → v ≡ looked (fittedPower K k e d)
     unfolding looked told
-    raised-none p h = rw (nothing-told (rule.orFitting K (rule.neutralPower K k e) (at d 0)) p (as-known K (rule.neutralPower K k e) d q f)) h
+    fitted-none p s h = rw (← q, fitting-nothing (candidates K (at c 0)) p f, ← s) h
+
+  -- ---- u is what is known
+  module _ (d : Dimensions) {u : Link} (q : u ≡ linked (rule.neutralPower K k e)) where
+    pub raised-known : {m : ℕ} → u ≡ To m → v ≡ kindAs m → v ≡ looked (raisedAs K k e d)
+    unfolding looked
+    raised-known p h = rw (to-some (rule.neutralPower K k e) p q) h
+
+    pub raised-fitted : u ≡ Nowhere → v ≡ looked (fittedPower K k e d) → v ≡ looked (raisedAs K k e d)
+    raised-fitted p h = rw (nowhere-none (rule.neutralPower K k e) p q) h
 
   -- ---- 28
   module _ (d : Dimensions) {o : Outcome} (f : o ≡ D.power d e) where
@@ -96,4 +102,4 @@ pub power-inexact : (K : Kinds) (code k : ℕ) {v : Answer} → v ≡ no (cause.
 unfolding looked told rule.power
 power-inexact K code k h = h
 
-pub ruleset powers = (raised-is, raised-several, raised-none, power-over, power-within, raised-graded, raised-unresolved, raised-resolved, power-point, power-one, power-raised, power-inexact)
+pub ruleset powers = (fitted-only, fitted-several, fitted-none, raised-known, raised-fitted, power-over, power-within, raised-graded, raised-unresolved, raised-resolved, power-point, power-one, power-raised, power-inexact)

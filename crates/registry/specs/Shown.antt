@@ -1,6 +1,5 @@
 -- What the code's answers show of the rules' answers.
 use Prim.Native.Nat.{ℕ}
-use mathlib.Core.Option.{Option, some, none}
 use Rattle.laws.specs.Out.{given, refused, _>>=_, _>>_, refuseIf, needed, known}
 use Rattle.dimension.specs.Dimension as D
 use Rattle.dimension.specs.declared.rational.Rational.{Rational}
@@ -26,11 +25,6 @@ kindAs k = answer (Kind k) 0 D.one
 -- a refusal that returns no dimensions
 abbrev pub no : Error → Answer
 no e = answer (Refused e) 0 D.one
-
--- the kind that is answered
-abbrev pub kindIn : rule.Answer ℕ → Option ℕ
-kindIn (given k) = some k
-kindIn (refused x) = none
 
 -- ---- the rules from where the code goes on
 -- a product of this grade

@@ -2,7 +2,6 @@
 // answer for all words. Nothing lent is written: a refusal names the twins, and who has the list lists them.
 mod answers;
 mod codes;
-mod kinds;
 mod powers;
 mod products;
 mod sums;

@@ -2,25 +2,27 @@
 use crate::answers::kind;
 use crate::answers::refused;
 use crate::answers::refused_with;
-use crate::kinds::power_kind;
 use crate::sums::unsupported;
-use derive::Resolved;
 use derive::neutral_power;
-use derive::or_fitting;
 use dimension::Dimensions;
 use dimension::Rational;
 use error::Answer;
 use error::Error;
 use error::Link;
+use fitting::Fit;
+use fitting::only_fit;
+use fitting::twins_from;
+use table::dims_in;
 use table::dims_of;
 use table::grade_of;
 use table::is_point;
 use table::is_resolved;
+use table::words_of;
 ghost use mathlib.Core.Path.{_≡_};
 ghost use mathlib.Core.Option.{some, none};
 ghost use Rattle.rules.specs.Arithmetic as rule;
 ghost use Rattle.rules.specs.Table.{kindsOf};
-ghost use Rattle.registry.specs.Shown.{looked, no, raisedAs, overAs};
+ghost use Rattle.registry.specs.Shown.{looked, no, raisedAs, fittedPower, overAs};
 ghost use Rattle.error.specs.declared.cause.Error.the-variants as cause;
 
 // 48: n kinds fit the power k to e.
@@ -30,17 +32,26 @@ fn twins(k: u16, e: Rational, n: u16) -> Answer
     refused(Error::UnresolvedPowerTwin(k, e.num, e.den, n))
 }
 
-// The kind of the power k to e, which has these dimensions.
+// The only kind that fits the power k to e, which has these dimensions, or why there is none.
+fn fitted(t: &[u32], k: u16, e: Rational, d: Dimensions) -> Answer
+    ensures { λ v. ⌜ v ≡ looked (fittedPower (kindsOf (now (t .entry))) k e d) ⌝ }
+{
+    let exponents = words_of(d);
+    let w = exponents.words;
+    match only_fit(t, &w, 0) {
+        Fit::Only(m) => kind(m),
+        Fit::Second(m) => twins(k, e, twins_from(t, &w, 0, m)),
+        Fit::Nothing => refused_with(Error::NoPowerKind, dims_in(&w)),
+    }
+}
+
+// The kind that is known already, or else one that fits.
 fn raised_to(t: &[u32], k: u16, e: Rational, d: Dimensions) -> Answer
     ensures { λ v. ⌜ v ≡ looked (raisedAs (kindsOf (now (t .entry))) k e d) ⌝ }
 {
-    if let Link::To(m) = power_kind(t, k, e, d) {
-        return kind(m);
-    }
-    match or_fitting(t, neutral_power(t, k, e), d, 0) {
-        Resolved::Is(m) => kind(m),
-        Resolved::Twins(n) => twins(k, e, n),
-        Resolved::Nothing => refused_with(Error::NoPowerKind, d),
+    match neutral_power(t, k, e) {
+        Link::To(m) => kind(m),
+        Link::Nowhere => fitted(t, k, e, d),
     }
 }
 

@@ -51,6 +51,21 @@ pub(crate) fn dims_from(t: &[u32], p: usize) -> Dimensions
     d
 }
 
+// The dimensions that 24 words by themselves stand for. `dims_from` with one caller is put into it, where the words are known to be there; a second
+// caller would make it twice as slow there.
+pub fn dims_in(w: &[u32]) -> Dimensions
+    ensures { λ r. ⌜ r ≡ T.dimsFrom (now (w .entry)) 0 ⌝ }
+{
+    let mut d = Dimensions::one();
+    let mut b: usize = 0;
+    while b < 12 {
+        let x = exponent(w, 0, b);
+        d.powers[b] = x;
+        b += 1;
+    }
+    d
+}
+
 // The bits that stand for a numerator.
 fn num_word(x: Rational) -> u32
     ensures { λ r. ⌜ I.twos 2147483648 r ≡ x .num ⌝ }

@@ -6,4 +6,4 @@ use Rattle.registry.proofs.products.several.Statement.{statement}
 use Rattle.registry.proofs.products.several.Tie as tie
 
 pub several-spec : {M : Type 1} → statement M
-several-spec = tie.close (tie.spec (search needs) (search needs) (search needs) (search needs) (search needs) (search needs) (λ c. search (rowed, needs)) (λ c. search (rowed, needs)))
+several-spec = tie.close (tie.spec (search needs) (search needs) (search needs) (search needs) (search needs) (search needs) (search needs) (λ c. search (rowed, needs)) (λ c. search (rowed, needs)))

@@ -6,7 +6,6 @@ use mathlib.Core.Path.{_≡_, refl}
 use lib.ListN.{length, take, length-set}
 use native.Mathlib.Omega.{arith}
 use Rattle.dimension.specs.Dimension as D
-use Rattle.dimension.specs.Dimension as D
 use Rattle.laws.specs.Ranges.{tab}
 use Rattle.laws.proofs.Tab.{fill-none, fill-next}
 use Rattle.rules.specs.Table as T

@@ -1,4 +1,4 @@
--- `fitting::counted::list` meets its contract: written one after another.
+-- `fitting::listed::list` meets its contract: written one after another.
 -- Assumes nothing.
 use borrow.Author.Needs.{needs}
 use Prim.Native.Nat.{_≤_, _-_}
@@ -10,8 +10,8 @@ use Rattle.laws.proofs.Picked.{picks}
 use Rattle.rules.specs.Kinds as K
 use Rattle.rules.specs.Table.{kindsOf, dimsFrom}
 use Rattle.fitting.specs.Shown.{at}
-use Rattle.fitting.proofs.counted.list.Statement.{statement}
-use Rattle.fitting.proofs.counted.list.Tie as tie
+use Rattle.fitting.proofs.listed.list.Statement.{statement}
+use Rattle.fitting.proofs.listed.list.Tie as tie
 
 abbrev Inv-loop : tie.InvT-loop
 Inv-loop t w g n twins₀ first count₀ k₀ twins count k = (k ≤ n) × (count ≤ k) × (length twins ≡ length twins₀) × (count ≡ length (picked (K.fits (kindsOf t) (at (dimsFrom w 0) g)) k)) × (twins ≡ overlay (picked (K.fits (kindsOf t) (at (dimsFrom w 0) g)) k) twins₀)

@@ -1,4 +1,4 @@
-// The kinds that fit dimensions at a grade, counted and listed.
+// The kinds that fit dimensions at a grade, listed.
 use crate::compared::pivot;
 use crate::kind::fits;
 use dimension::Dimensions;
@@ -10,38 +10,7 @@ ghost use lib.ListN.{length};
 ghost use Rattle.laws.specs.Ranges.{picked};
 ghost use Rattle.rules.specs.Kinds as K;
 ghost use Rattle.rules.specs.Table.{kindsOf, dimsFrom};
-ghost use Rattle.fitting.specs.Shown.{at, seen, listed, roomListed};
-
-// How many kinds fit, and the last of them.
-pub struct Seen {
-    pub count: u16,
-    pub last: u16,
-}
-
-pub(crate) fn tally(t: &[u32], w: &[u32], g: u32, n: u16) -> Seen
-    ensures { λ r. ⌜ r ≡ seen (picked (K.fits (kindsOf (now (t .entry))) (at (dimsFrom (now (w .entry)) 0) g)) n) ⌝ }
-{
-    let first = pivot(w);
-    let mut count: u16 = 0;
-    let mut last: u16 = 0;
-    let mut k: u16 = 0;
-    while k < n {
-        if fits(t, k, w, g, first) {
-            count += 1;
-            last = k;
-        }
-        k += 1;
-    }
-    Seen { count, last }
-}
-
-pub fn candidates(t: &[u32], d: Dimensions, g: u32) -> Seen
-    ensures { λ r. ⌜ r ≡ seen (K.candidates (kindsOf (now (t .entry))) (at d g)) ⌝ }
-{
-    let exponents = words_of(d);
-    let w = exponents.words;
-    tally(t, &w, g, kind_count(t))
-}
+ghost use Rattle.fitting.specs.Shown.{at, listed, roomListed};
 
 // Lists those of the first n kinds that fit from the front of the lent list.
 fn list(t: &[u32], w: &[u32], g: u32, n: u16, twins: &mut [u16])
