@@ -5,4 +5,5 @@ pub mod Tells
 pub mod Own
 -- on the way there
 mod Ands
+mod Joint
 mod Tables

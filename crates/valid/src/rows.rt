@@ -15,27 +15,27 @@ fn row_fine(t: &[u32], s: &[u32], p: usize) -> bool
     (word(s, p) < n) & (word(s, p + 1) < 4) & (word(s, p + 2) < n) & (word(s, p + 3) < n)
 }
 
-// The same of a row whose words are all there.
-fn row_within(t: &[u32], s: &[u32], p: usize) -> bool
-    requires { ⌜ p + 4 ≤ length (now s) ⌝ }
-    ensures { λ r. ⌜ r ≡ T.rowFine (now (t .entry)) (now (s .entry)) p ⌝ }
-{
-    let n = word(t, 0);
-    (s[p] < n) & (s[p + 1] < 4) & (s[p + 2] < n) & (s[p + 3] < n)
-}
-
-// The m rows of s from place p on, all of them there. None of them ends the loop, so that several are looked at at once.
+// The m rows of s from place p on, all of them there. None of them ends the loop, and each of a row's words has a test of its own to gather into, so
+// that the four are looked at at once.
 fn rows_within(t: &[u32], s: &[u32], p: usize, m: usize) -> bool
     requires { ⌜ p + 4 * m ≤ length (now s) ⌝ }
     ensures { λ r. ⌜ r ≡ all (λ i. T.rowFine (now (t .entry)) (now (s .entry)) (p + 4 * i)) m ⌝ }
 {
-    let mut fine = true;
+    let n = word(t, 0);
+    let mut lefts = true;
+    let mut ops = true;
+    let mut rights = true;
+    let mut results = true;
     let mut i: usize = 0;
     while i < m {
-        fine = fine & row_within(t, s, p + 4 * i);
+        let q = p + 4 * i;
+        lefts = lefts & (s[q] < n);
+        ops = ops & (s[q + 1] < 4);
+        rights = rights & (s[q + 2] < n);
+        results = results & (s[q + 3] < n);
         i += 1;
     }
-    fine
+    lefts & ops & rights & results
 }
 
 // The m rows of s from place p on, over the kinds of t.
