@@ -6,4 +6,6 @@ pub mod Own
 -- on the way there
 mod Ands
 mod Joint
+mod Ors
+mod Wholly
 mod Tables

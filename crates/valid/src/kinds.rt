@@ -1,28 +1,17 @@
-// Counts, links, roles and grades in their ranges, kind by kind.
+// The counts, and the kinds: their marks and their exponents.
+use crate::exponents::all_whole;
 use crate::exponents::exponents_fine;
-use table::DIFFERENCE;
-use table::FLAG;
-use table::GRADE;
+use crate::marks::all_marks;
+use crate::marks::link_fine;
+use crate::marks::marks_fine;
+use crate::marks::marks_within;
 use table::KIND;
 use table::KINDS;
-use table::RATE;
-use table::ROLE;
-use table::TARGET;
 use table::word;
 ghost use mathlib.Core.Path.{_≡_};
-ghost use mathlib.Core.Bool.{cond, _||_};
-ghost use Prim.Native.Nat.{_+_, _<_, _≤_};
-ghost use lib.Dec.{eqb, ltb};
-ghost use lib.ListN.{length};
+ghost use Prim.Native.Nat.{_<_, _≤_};
 ghost use Rattle.laws.specs.Ranges.{all};
 ghost use Rattle.rules.specs.Table as T;
-
-// The index of one of n kinds, or none.
-fn link_fine(w: u32, n: u32) -> bool
-    ensures { λ r. ⌜ r ≡ (ltb w n || eqb w 65535) ⌝ }
-{
-    (w < n) | (w == 65535)
-}
 
 // The counts, and the dimensionless and the time kind.
 pub(crate) fn head_fine(t: &[u32]) -> bool
@@ -30,46 +19,6 @@ pub(crate) fn head_fine(t: &[u32]) -> bool
 {
     let n = word(t, 0);
     (n <= 240) & (word(t, 1) <= 400) & link_fine(word(t, 2), n) & link_fine(word(t, 3), n)
-}
-
-// A point's difference is a kind; no other has one.
-fn role_fine(role: u32, difference: u32, n: u32) -> bool
-    ensures { λ r. ⌜ r ≡ cond (eqb role 1) (ltb difference n) (eqb difference 65535) ⌝ }
-{
-    if role == 1 {
-        return difference < n;
-    }
-    difference == 65535
-}
-
-// Flag, grade, role and links of the kind whose words begin at p.
-fn marks_fine(t: &[u32], p: usize) -> bool
-    requires { ⌜ p < 4294967296 ⌝ }
-    ensures { λ r. ⌜ r ≡ T.marksFine (now (t .entry)) p ⌝ }
-{
-    let n = word(t, 0);
-    let role = word(t, p + ROLE);
-    (word(t, p + FLAG) < 2)
-        & (word(t, p + GRADE) < 4)
-        & (role < 3)
-        & role_fine(role, word(t, p + DIFFERENCE), n)
-        & link_fine(word(t, p + TARGET), n)
-        & link_fine(word(t, p + RATE), n)
-}
-
-// The same of a kind whose words are all there, so that no place needs a test.
-fn marks_within(t: &[u32], p: usize) -> bool
-    requires { ⌜ p + 32 ≤ length (now t) ⌝ }
-    ensures { λ r. ⌜ r ≡ T.marksFine (now (t .entry)) p ⌝ }
-{
-    let n = word(t, 0);
-    let role = t[p + ROLE];
-    (t[p + FLAG] < 2)
-        & (t[p + GRADE] < 4)
-        & (role < 3)
-        & role_fine(role, t[p + DIFFERENCE], n)
-        & link_fine(t[p + TARGET], n)
-        & link_fine(t[p + RATE], n)
 }
 
 fn kind_fine(t: &[u32], k: usize) -> bool
@@ -89,7 +38,8 @@ fn kind_fine(t: &[u32], k: usize) -> bool
     exponents_fine(t, p)
 }
 
-pub(crate) fn kinds_fine(t: &[u32], n: usize) -> bool
+// One kind after the other.
+fn each_fine(t: &[u32], n: usize) -> bool
     requires { ⌜ n ≤ 240 ⌝ }
     ensures { λ r. ⌜ r ≡ all (T.kindFine (now (t .entry))) n ⌝ }
 {
@@ -101,4 +51,18 @@ pub(crate) fn kinds_fine(t: &[u32], n: usize) -> bool
         k += 1;
     }
     true
+}
+
+// Where all exponents are whole numbers, as in nearly every table, nothing but the marks is left to test.
+pub(crate) fn kinds_fine(t: &[u32], n: usize) -> bool
+    requires { ⌜ n ≤ 240 ⌝ }
+    ensures { λ r. ⌜ r ≡ all (T.kindFine (now (t .entry))) n ⌝ }
+{
+    if t.len() < KINDS + KIND * n {
+        return each_fine(t, n);
+    }
+    if !all_whole(t, n) {
+        return each_fine(t, n);
+    }
+    all_marks(t, n)
 }

@@ -2,6 +2,7 @@
 // ranges. Both answer for every list of words.
 mod exponents;
 mod kinds;
+mod marks;
 mod rows;
 
 use crate::kinds::head_fine;

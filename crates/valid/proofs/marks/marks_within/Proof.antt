@@ -1,9 +1,9 @@
--- `valid::kinds::marks_within` meets its contract.
+-- `valid::marks::marks_within` meets its contract.
 -- Assumes nothing.
 use borrow.Author.Needs.{needs}
 use Rattle.rules.specs.Table as T
-use Rattle.valid.proofs.kinds.marks_within.Statement.{statement}
-use Rattle.valid.proofs.kinds.marks_within.Tie as tie
+use Rattle.valid.proofs.marks.marks_within.Statement.{statement}
+use Rattle.valid.proofs.marks.marks_within.Tie as tie
 
 returns : tie.Need-returns
 unfolding T.marksFine
