@@ -8,4 +8,5 @@ mod Ands
 mod Joint
 mod Ors
 mod Wholly
+mod Marked
 mod Tables

@@ -10,7 +10,7 @@ use lib.Dec.{ltb, eqb}
 use lib.Pow.{pow-pos}
 use borrow.Author.Tests.{ltb-true, ltb-false, lt-ltb, le-ltb, eq-eqb, ne-eqb}
 use Rattle.laws.specs.Ranges.{all}
-use Rattle.valid.specs.Gathered.{ors}
+use Rattle.valid.specs.Shown.{ors}
 
 -- bits are only added
 or-most : (a b : ℕ) → a ≤ bitOr a b

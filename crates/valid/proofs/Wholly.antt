@@ -16,7 +16,7 @@ use Rattle.dimension.specs.Fraction as F
 use Rattle.rules.specs.Table.{word, kindPlace, exponentFrom, marksFine, exponentsFine, kindFine}
 use Rattle.joined.specs.Shown.{wholeAt, wholeFrom}
 use Rattle.joined.proofs.Wholes.{all-whole-fine}
-use Rattle.valid.specs.Gathered.{ors, raised}
+use Rattle.valid.specs.Shown.{ors, raised}
 use Rattle.valid.proofs.Joint.{all-and, all-same, all-pairs}
 use Rattle.valid.proofs.Ors.{or-below, ors-below, none-below}
 

@@ -12,7 +12,7 @@ ghost use lib.ListN.{length};
 ghost use Rattle.laws.specs.Ranges.{all};
 ghost use Rattle.joined.specs.Shown.{wholeAt};
 ghost use Rattle.rules.specs.Table as T;
-ghost use Rattle.valid.specs.Gathered.{ors, raised};
+ghost use Rattle.valid.specs.Shown.{ors, raised};
 
 // The exponent of base b: the numerator's bits, then the denominator. `table` has the same for itself; with a premise, neither is public.
 fn exponent(t: &[u32], p: usize, b: usize) -> Rational

@@ -15,6 +15,7 @@ ghost use lib.Dec.{eqb, ltb};
 ghost use lib.ListN.{length};
 ghost use Rattle.laws.specs.Ranges.{all};
 ghost use Rattle.rules.specs.Table as T;
+ghost use Rattle.valid.specs.Shown.{roleFine};
 
 // The index of one of n kinds, or none.
 pub(crate) fn link_fine(w: u32, n: u32) -> bool
@@ -48,19 +49,46 @@ pub(crate) fn marks_fine(t: &[u32], p: usize) -> bool
         & link_fine(word(t, p + RATE), n)
 }
 
-// The same of a kind whose words are all there, so that no place needs a test.
+// The word at q is the index of a kind, or none, as most are.
+fn link_within(t: &[u32], q: usize) -> bool
+    requires { ⌜ q < length (now t) ⌝ }
+    ensures { λ r. ⌜ r ≡ T.linkFine (now (t .entry)) (T.word (now (t .entry)) q) ⌝ }
+{
+    if t[q] == 65535 {
+        return true;
+    }
+    t[q] < word(t, 0)
+}
+
+// The role, and the difference that goes with it.
+fn role_within(t: &[u32], p: usize) -> bool
+    requires { ⌜ p + 32 ≤ length (now t) ⌝ }
+    ensures { λ r. ⌜ r ≡ roleFine (now (t .entry)) p ⌝ }
+{
+    if t[p + ROLE] == 1 {
+        return t[p + DIFFERENCE] < word(t, 0);
+    }
+    (t[p + ROLE] < 3) & (t[p + DIFFERENCE] == 65535)
+}
+
+// The marks of a kind whose words are all there, so that no place needs a test. Each is read only once those before it are fine.
 pub(crate) fn marks_within(t: &[u32], p: usize) -> bool
     requires { ⌜ p + 32 ≤ length (now t) ⌝ }
     ensures { λ r. ⌜ r ≡ T.marksFine (now (t .entry)) p ⌝ }
 {
-    let n = word(t, 0);
-    let role = t[p + ROLE];
-    (t[p + FLAG] < 2)
-        & (t[p + GRADE] < 4)
-        & (role < 3)
-        & role_fine(role, t[p + DIFFERENCE], n)
-        & link_fine(t[p + TARGET], n)
-        & link_fine(t[p + RATE], n)
+    if 2 <= t[p + FLAG] {
+        return false;
+    }
+    if 4 <= t[p + GRADE] {
+        return false;
+    }
+    if !role_within(t, p) {
+        return false;
+    }
+    if !link_within(t, p + TARGET) {
+        return false;
+    }
+    link_within(t, p + RATE)
 }
 
 // The marks of n kinds, all of them there.

@@ -6,7 +6,7 @@ use mathlib.Core.Path.{_≡_}
 use native.Mathlib.Omega.{arith}
 use Rattle.laws.proofs.All.{every-end}
 use Rattle.rules.specs.Table.{kindPlace}
-use Rattle.valid.specs.Gathered.{ors}
+use Rattle.valid.specs.Shown.{ors}
 use Rattle.valid.proofs.Ors.{ors-none, ors-next}
 use Rattle.valid.proofs.Wholly.{fourth, second, third, last, wholly}
 use Rattle.valid.proofs.exponents.all_whole.Statement.{statement}

@@ -2,7 +2,7 @@
 -- Assumes nothing.
 use borrow.Author.Needs.{needs}
 use mathlib.Core.Path.{_∙_}
-use Rattle.valid.specs.Gathered.{raised}
+use Rattle.valid.specs.Shown.{raised}
 use Rattle.valid.proofs.Ors.{ors-six}
 use Rattle.valid.proofs.Wholly.{raised-first}
 use Rattle.valid.proofs.exponents.fourths.Statement.{statement}
