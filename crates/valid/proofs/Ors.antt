@@ -1,23 +1,23 @@
 -- The bits of several numbers in one number: it is below a power of two exactly if each of them is. And a loop that gathers them. Assumes nothing.
-use Prim.Native.Nat.{ℕ, zero, suc, _+_, _^_, _<_, _≤_}
-use mathlib.Core.Path.{_≡_, refl, sym, _∙_, subst}
+use Prim.Native.Nat.{ℕ, zero, suc, _+_, _^_, _≤_}
+use mathlib.Core.Path.{_≡_, refl, sym, _∙_}
 use mathlib.Core.Bool.{Bool, true, false, _&&_}
-use native.Mathlib.Nat.{le-refl, le-trans, le-of-eq, add-le-add, add-le-add-iff-right}
+use native.Mathlib.Nat.{le-trans}
 use native.Mathlib.Numerals.{add-one}
 use native.Mathlib.Omega.{arith}
-use lib.Bits.{bitOr, or-lt, or-add-and, and-le-r, or-comm}
+use lib.Bits.{bitOr, or-lt, or-add-and, and-le-l, and-le-r}
 use lib.Dec.{ltb, eqb}
 use lib.Pow.{pow-pos}
 use borrow.Author.Tests.{ltb-true, ltb-false, lt-ltb, le-ltb, eq-eqb, ne-eqb}
 use Rattle.laws.specs.Ranges.{all}
 use Rattle.valid.specs.Shown.{ors}
 
--- bits are only added
-or-most : (a b : ℕ) → a ≤ bitOr a b
-or-most a b = add-le-add-iff-right b .0 (le-trans (le-of-eq (sym (or-add-and a b))) (add-le-add (le-refl (bitOr a b)) (and-le-r a b)))
+-- neither number is more than what has the bits of both
+or-left : (a b : ℕ) → a ≤ bitOr a b
+or-left a b = omega (arith, or-add-and a b, and-le-r a b)
 
-or-most-right : (a b : ℕ) → b ≤ bitOr a b
-or-most-right a b = subst (λ (x : ℕ). b ≤ x) (or-comm b a) (or-most b a)
+or-right : (a b : ℕ) → b ≤ bitOr a b
+or-right a b = omega (arith, or-add-and a b, and-le-l a b)
 
 module _ (k : ℕ) where
   pub or-below : (a b : ℕ) → ltb (bitOr a b) (2 ^ k) ≡ (ltb a (2 ^ k) && ltb b (2 ^ k))
@@ -25,8 +25,8 @@ module _ (k : ℕ) where
     where
       go : (x : Bool) → ltb a (2 ^ k) ≡ x → (y : Bool) → ltb b (2 ^ k) ≡ y → ltb (bitOr a b) (2 ^ k) ≡ (ltb a (2 ^ k) && ltb b (2 ^ k))
       go true p true q = rw (p, q) (lt-ltb (bitOr a b) (2 ^ k) (or-lt k a b (ltb-true a (2 ^ k) p) (ltb-true b (2 ^ k) q)))
-      go true p false q = rw (p, q) (le-ltb (bitOr a b) (2 ^ k) (le-trans (ltb-false b (2 ^ k) q) (or-most-right a b)))
-      go false p y q = rw p (le-ltb (bitOr a b) (2 ^ k) (le-trans (ltb-false a (2 ^ k) p) (or-most a b)))
+      go true p false q = rw (p, q) (le-ltb (bitOr a b) (2 ^ k) (le-trans (ltb-false b (2 ^ k) q) (or-right a b)))
+      go false p y q = rw p (le-ltb (bitOr a b) (2 ^ k) (le-trans (ltb-false a (2 ^ k) p) (or-left a b)))
 
   pub ors-below : (f : ℕ → ℕ) (n : ℕ) → ltb (ors f n) (2 ^ k) ≡ all (λ j. ltb (f j) (2 ^ k)) n
   unfolding ors all
