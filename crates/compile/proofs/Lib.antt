@@ -19,5 +19,6 @@ mod Prefix
 mod RowRule
 -- the whole: one stage after the other, over words that are read as what is declared
 mod Stages
+mod FrontKinds
 mod Readied
 mod Copied

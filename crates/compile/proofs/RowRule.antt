@@ -1,6 +1,6 @@
 -- The rule of a row of a catalog is the rule by what its ids name, over the entries of the rows before it, while those are accepted. Assumes
 -- nothing.
-use Prim.Native.Nat.{ℕ, _+_, _-_, _<_, _≤_}
+use Prim.Native.Nat.{ℕ, _+_, _<_, _≤_}
 use mathlib.Core.Path.{_≡_, refl, _∙_, ap}
 use mathlib.Core.Bool.{true, cond, not, _&&_}
 use mathlib.Core.List.{List}
@@ -9,7 +9,7 @@ use native.Mathlib.Nat.{le-trans}
 use native.Mathlib.Omega.{arith}
 use borrow.Author.Tests.{lt-ltb}
 use lib.Dec.{eqb, ltb}
-use lib.ListN.{length, take, drop}
+use lib.ListN.{length, take}
 use Rattle.laws.specs.Out.{Out, given, refused, _>>=_, _>>_, refuseIf}
 use Rattle.laws.proofs.First.{first-below}
 use Rattle.dimension.specs.declared.grade.ProductOp.the-variants.{Div}
@@ -19,7 +19,7 @@ use Rattle.rules.specs.Arithmetic.{Resolved, is, twins, nothing, operand, deriv
 use Rattle.rules.specs.Layout.{kindCount, rowCount}
 use Rattle.rules.specs.Catalog.{Catalog, Id, catalogIn, find, covers, rowAmong, kindsOf}
 use Rattle.rules.specs.Compile.{Checked, called, several, fresh, rowRule, eachRecord}
-use Rattle.rules.specs.Table.{entriesIn, tableWords}
+use Rattle.rules.specs.Table.{entriesIn}
 use Rattle.rules.specs.Table as table
 use Rattle.guarantees.proofs.KindRules.{find-below}
 use Rattle.guarantees.proofs.Given.{record-given}
@@ -28,10 +28,11 @@ use Rattle.guarantees.proofs.InForce.{entries-said}
 use Rattle.error.specs.declared.answer.Answer.{Answer}
 use Rattle.error.specs.declared.answer.Verdict.the-variants.{Refused}
 use Rattle.error.specs.declared.cause.Error.{Error}
+use Rattle.written.specs.Shown.{rowsIn}
 use Rattle.compile.specs.Shown.{ruled, ruledAll, Reads}
 use Rattle.compile.specs.declared.rows.Row.{Row}
 use Rattle.compile.specs.Rows.{rowOf, isNamed, freshIn, pairFresh, orSeveral, rowSeveral, rowFits, rowDerived, rowNamed, rowBy}
-use Rattle.compile.proofs.Prefix.{used-front, used-next}
+use Rattle.compile.proofs.Prefix.{used-in, used-front, used-next}
 use Rattle.compile.proofs.EachRecord.{given-told, all-here, all-next}
 
 bind-same : {E A B : Type 0} (m : Out E A) (f g : A → Out E B) → ((a : A) → f a ≡ g a) → (m >>= f) ≡ (m >>= g)
@@ -106,7 +107,7 @@ module _ (C : Catalog) (i : ℕ) (few : C .kindCount ≤ 240) (before : (j : ℕ
           rw (p, q, s, known (C .row i .left) p, known (C .row i .right) q, known (C .row i .result) s)
           (ap (λ (m : Checked). refuseIf (C .row i .commutative && sameOp (C .row i .op) Div) (CommutativeQuotient i) >> m) (named-same l r k))
 
--- ---- a turn of the loop over the rows of the image s: t are its words, x is row i and v its answer
+-- ---- a turn of the loop over the rows of the image s: t are its kinds' words and ws its rows', x is row i and v its answer
 module _ (s : List ℕ) (kinds : kindCount s ≤ 240) (rows : rowCount s ≤ 200) (i : ℕ) (h : i < rowCount s) where
   abbrev C : Catalog
   C = catalogIn s
@@ -114,15 +115,20 @@ module _ (s : List ℕ) (kinds : kindCount s ≤ 240) (rows : rowCount s ≤ 200
   accepted : eachRecord C (rowRule C) i ≡ given tt → (j : ℕ) → j < i → Accepted C j
   accepted p j l = row-tells C j (record-given C (rowRule C) i p j l)
 
-  module _ {t : List ℕ} (words : t ≡ tableWords C) (reads : Reads t s) {used : ℕ} (u : used ≡ 7696 + length (entriesIn C i)) (p : eachRecord C (rowRule C) i ≡ given tt)
-      {x : Row} (f : x ≡ rowOf C i) {v : Answer} (e : v ≡ ruled i (rowBy (table.kindsOf t) (table.rowsOf (take (used - 7696) (drop 7696 t))) x i)) where
+  module _ (t : List ℕ) (reads : Reads t s) {ws : List ℕ} (words : ws ≡ rowsIn s) {used : ℕ} (u : used ≡ length (entriesIn C i)) (p : eachRecord C (rowRule C) i ≡ given tt)
+      {x : Row} (f : x ≡ rowOf C i) {v : Answer} (e : v ≡ ruled i (rowBy (table.kindsOf t) (table.rowsOf (take used ws)) x i)) where
     turn : v ≡ ruled i (rowRule C i)
-    unfolding catalogIn
-    turn = e ∙ rw (reads, f, used-front C i (omega arith) rows u words) (ap (ruled i) (rule-same C i kinds (accepted p)))
+    unfolding catalogIn rowsIn
+    turn = e ∙ rw (reads, f, used-front C rows words i (omega arith) u) (ap (ruled i) (rule-same C i kinds (accepted p)))
 
     pub turn-stop : {y : Error} → v .verdict ≡ Refused y → v ≡ ruledAll (rowRule C) (rowCount s)
     turn-stop q = all-here (rowRule C) i (rowCount s) refl p h turn q
 
     pub turn-next : {w : ℕ} → ((y : Error) → v .verdict ≡ Refused y → ⊥) → w ≡ cond (x .commutative && not (eqb (x .left) (x .right))) 8 4
-        → (used + w ≡ 7696 + length (entriesIn C (i + 1))) × (eachRecord C (rowRule C) (i + 1) ≡ given tt)
+        → (used + w ≡ length (entriesIn C (i + 1))) × (eachRecord C (rowRule C) (i + 1) ≡ given tt)
     turn-next g k = (used-next C i (row-tells C i (given-told i (rowRule C i) turn g)) u f k, all-next (rowRule C) i p turn g)
+
+  -- what is used is part of the rows' words
+  pub turn-in : {ws : List ℕ} → ws ≡ rowsIn s → {used : ℕ} → used ≡ length (entriesIn C i) → used ≤ length ws
+  unfolding catalogIn rowsIn
+  turn-in words u = used-in C rows words i (omega arith) u

@@ -1,10 +1,11 @@
 -- What the code's answers show of the rules, and the rules from a step on.
-use Prim.Native.Nat.{ℕ}
+use Prim.Native.Nat.{ℕ, _-_}
 use mathlib.Core.Path.{_≡_}
 use mathlib.Core.Bool.{Bool, false, cond, not, _&&_}
-use mathlib.Core.List.{List}
+use mathlib.Core.List.{List, _++_}
 use mathlib.Core.Option.{some}
 use lib.Dec.{eqb}
+use lib.ListN.{length, replicate}
 use Rattle.laws.specs.Options.{isSome}
 use Rattle.laws.specs.Out.{given, _>>=_, _>>_, refuseIf, refuseFound, needed, each}
 use Rattle.laws.specs.Ranges.{first}
@@ -35,6 +36,10 @@ compiled m = shown (λ c. Fine) m
 -- the words t are read as the kinds that the image s declares
 abbrev pub Reads : List ℕ → List ℕ → Type 0
 Reads t s = T.kindsOf t ≡ kindsOf (catalogIn s)
+
+-- the words of a table with these front and rows, and zeros between them
+unfoldable pub whole : List ℕ → List ℕ → List ℕ
+whole front rows = front ++ (replicate (7696 - length front) 0 ++ rows)
 
 -- all rules of kinds
 unfoldable pub kindsRuled : Catalog → Placed (Unit {0})

@@ -1,4 +1,4 @@
-// 12 to 16: differences, the dimensionless and the time kind. The words t are those that a compilation of the image writes: what an id names is read
+// 12 to 16: differences, the dimensionless and the time kind. The words t begin those that a compilation of the image writes: what an id names is read
 // from them, and the image says only whether it is declared.
 use crate::answers::passed;
 use crate::answers::refused_at;

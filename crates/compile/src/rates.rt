@@ -1,4 +1,4 @@
-// 12 and 17 to 21: rates. The words t are those that a compilation of the image writes.
+// 12 and 17 to 21: rates. The words t begin those that a compilation of the image writes.
 use crate::answers::passed;
 use crate::answers::refused_at;
 use catalog::blank_at;

@@ -1,4 +1,4 @@
-// 12, 19 and 22 to 27: rows. The words t are those that a compilation of the image writes, and links what the ids of its rows name.
+// 12, 19 and 22 to 27: rows. The words t are read as the kinds of the image, rows are the words of its rows in force, and links what their ids name.
 use crate::answers::passed;
 use crate::answers::refused_at;
 use catalog::is_commutative;
@@ -17,7 +17,6 @@ use error::Error;
 use error::Link;
 use error::Verdict;
 use fitting::carries;
-use table::ROWS;
 use table::is_point;
 use table::is_resolved;
 use table::row_of;
@@ -35,7 +34,7 @@ ghost use Rattle.rules.specs.Catalog.{catalogIn};
 ghost use Rattle.rules.specs.Compile as rule;
 ghost use Rattle.rules.specs.Table as T;
 ghost use Rattle.fitting.specs.Shown.{at};
-ghost use Rattle.written.specs.Shown.{linksFor};
+ghost use Rattle.written.specs.Shown.{rowsIn, linksIn};
 ghost use Rattle.compile.specs.Shown.{ruled, ruledAll, Reads};
 ghost use Rattle.compile.specs.Rows.{rowOf, isNamed, pairFresh, rowSeveral, rowFits, rowDerived, rowNamed, rowBy};
 
@@ -49,8 +48,7 @@ struct Row {
 }
 
 fn row_at(image: &[u8], links: &[u16], i: u16) -> Row
-    requires { ⌜ now links ≡ linksFor (now image) ⌝ }
-    requires { ⌜ layout.kindCount (now image) ≤ 240 ⌝ }
+    requires { ⌜ now links ≡ linksIn (now image) ⌝ }
     requires { ⌜ layout.rowCount (now image) ≤ 200 ⌝ }
     requires { ⌜ i < layout.rowCount (now image) ⌝ }
     ensures { λ r. ⌜ r ≡ rowOf (catalogIn (now (image .entry))) i ⌝ }
@@ -195,21 +193,21 @@ fn entered(row: Row) -> usize
     4
 }
 
-// All rows, in order. The words of those in force before row i end at `used`.
-pub(crate) fn check_rows(image: &[u8], t: &[u32], links: &[u16]) -> Answer
-    requires { ⌜ now t ≡ T.tableWords (catalogIn (now image)) ⌝ }
+// All rows, in order. The words of those in force before row i are the first `used`.
+pub(crate) fn check_rows(image: &[u8], t: &[u32], rows: &[u32], links: &[u16]) -> Answer
     requires { ⌜ Reads (now t) (now image) ⌝ }
-    requires { ⌜ now links ≡ linksFor (now image) ⌝ }
+    requires { ⌜ now rows ≡ rowsIn (now image) ⌝ }
+    requires { ⌜ now links ≡ linksIn (now image) ⌝ }
     requires { ⌜ layout.kindCount (now image) ≤ 240 ⌝ }
     requires { ⌜ layout.rowCount (now image) ≤ 200 ⌝ }
     ensures { λ r. ⌜ r ≡ ruledAll (rule.rowRule (catalogIn (now (image .entry)))) (layout.rowCount (now (image .entry))) ⌝ }
 {
     let n = row_count(image);
-    let mut used = ROWS;
+    let mut used: usize = 0;
     let mut i: u16 = 0;
     while i < n {
         let row = row_at(image, links, i);
-        let answer = check_row(t, &t[ROWS..used], row, i);
+        let answer = check_row(t, &rows[..used], row, i);
         let verdict = answer.verdict;
         if let Verdict::Refused(e) = verdict {
             return answer;

@@ -1,130 +1,109 @@
--- The table, by its three parts. Assumes nothing.
+-- The table in two parts, its front and its rows. Assumes nothing.
 use Prim.Native.Nat.{ℕ, _+_, _*_, _-_, _/_, _%_, _<_, _≤_}
-use mathlib.Core.Path.{_≡_, refl, sym, _∙_, ap, subst}
+use mathlib.Core.Path.{_≡_, refl, sym, _∙_, ap}
 use mathlib.Core.Bool.{Bool, true, false, _&&_}
-use mathlib.Core.List.{List, [], _∷_}
+use mathlib.Core.List.{List, [], _∷_, _++_, append-assoc, append-nil}
 use native.Mathlib.Omega.{arith}
-use borrow.Author.Tests.{ltb-true, ltb-false, leb-true, le-leb}
-use lib.Dec.{ltb, leb}
-use lib.ListN.{length, getD, replicate, length-replicate, List·getD-eq-default}
-use lib.Seq.{paste, take-all, length-paste, ext-getD}
-use Rattle.laws.specs.Ranges.{tab, below, overlay}
+use borrow.Author.Tests.{leb-true, le-leb}
+use lib.Dec.{leb}
+use lib.ListN.{length, take, drop, replicate, length-append, length-drop, drop-of-length-le}
+use lib.Seq.{paste, take-all, take-at, length-take-le, drop-drop, drop-append-add}
+use Rattle.laws.specs.Ranges.{tab, overlay}
 use Rattle.laws.proofs.Cases.{and-left, and-right}
-use Rattle.laws.proofs.Below.{below-in, below-past}
-use Rattle.laws.proofs.Tab.{length-tab, tab-at, tab-same}
+use Rattle.laws.proofs.Tab.{length-tab, tab-same}
 use Rattle.rules.specs.Layout.{kindCount, rowCount}
 use Rattle.rules.specs.Catalog.{Catalog, idAt, catalogIn, link}
-use Rattle.rules.specs.Table.{word, tableSize, inForce, indexWord, headWords, kindWord, tableWord, tableWords}
-use Rattle.written.specs.Shown.{kindsWord, partWord, wordsFor, linksIn, linksFor}
-use Rattle.written.proofs.Pasted.{over-zeros, paste-over, before-put, within-put}
+use Rattle.rules.specs.Table.{inForce, indexWord, headWords, tableWord}
+use Rattle.written.specs.Shown.{kindsWord, frontIn, frontAfter, fitsIn, rowsIn, rowsFor, linksIn, linksFor}
+use Rattle.written.proofs.Places.{word-of-kind}
+use Rattle.written.proofs.Kinded.{tab-append, count-in}
+use Rattle.written.proofs.Pasted.{paste-over}
 
--- word j of all kinds
-kinds-at : (C : Catalog) (n j : ℕ) → getD (tab (kindsWord C) (32 * n)) j 0 ≡ below n 0 (λ k. kindWord C k (j % 32)) (j / 32)
-unfolding kindsWord
-kinds-at C n j = go (ltb (j / 32) n) refl
-  where
-    go : (b : Bool) → ltb (j / 32) n ≡ b → getD (tab (kindsWord C) (32 * n)) j 0 ≡ below n 0 (λ k. kindWord C k (j % 32)) (j / 32)
-    go true p =
-        let h : j / 32 < n = ltb-true (j / 32) n p in
-        tab-at (kindsWord C) (32 * n) j 0 (omega arith) ∙ sym (below-in n 0 (λ k. kindWord C k (j % 32)) (j / 32) h)
-    go false p =
-        let h : n ≤ j / 32 = ltb-false (j / 32) n p in
-        let l : length (tab (kindsWord C) (32 * n)) ≤ j = rw (length-tab (kindsWord C) (32 * n)) (omega arith) in
-        List·getD-eq-default (tab (kindsWord C) (32 * n)) 0 l ∙ sym (below-past n 0 (λ k. kindWord C k (j % 32)) (j / 32) h)
-
--- the table's word i, from a head, kinds and rows
-module _ (C : Catalog) (head kinds rows : List ℕ) (a b : ℕ) (h : head ≡ headWords C) (k : kinds ≡ overlay (tab (kindsWord C) (32 * C .kindCount)) (replicate a 0)) (r : rows ≡ overlay (inForce C) (replicate b 0)) where
-  pub part-told : (i : ℕ) → partWord head kinds rows i ≡ tableWord C i
-  unfolding partWord tableWord
-  part-told i = go (ltb i 16) refl (ltb i 7696) refl
-    where
-      kindly : word kinds (i - 16) ≡ below (C .kindCount) 0 (λ k. kindWord C k ((i - 16) % 32)) ((i - 16) / 32)
-      kindly = rw k (over-zeros (tab (kindsWord C) (32 * C .kindCount)) a (i - 16) ∙ kinds-at C (C .kindCount) (i - 16))
-
-      rowly : word rows (i - 7696) ≡ word (inForce C) (i - 7696)
-      rowly = rw r (over-zeros (inForce C) b (i - 7696))
-
-      go : (x : Bool) → ltb i 16 ≡ x → (y : Bool) → ltb i 7696 ≡ y → partWord head kinds rows i ≡ tableWord C i
-      go true p y q = rw (p, h)
-      go false p true q = rw (p, q) kindly
-      go false p false q = rw (p, q) rowly
-
-  pub parts-told : (n : ℕ) → tab (partWord head kinds rows) n ≡ tab (tableWord C) n
-  parts-told n = tab-same (partWord head kinds rows) (tableWord C) n (λ i l. part-told i)
-
--- the three parts put at their places
-module _ (head kinds rows : List ℕ) {t u v : List ℕ} (h : length head ≡ 4) (k : length kinds ≡ 7680) (r : length rows ≡ 1600) (e : t ≡ paste (replicate 9296 0) 0 head 4) (f : u ≡ paste t 16 kinds 7680) (g : v ≡ paste u 7696 rows 1600) where
-  first-long : length t ≡ 9296
-  first-long = ap length e ∙ length-paste (replicate 9296 0) 0 head 4 (rw (length-replicate {A = ℕ} 9296 0) (omega arith)) (omega arith) ∙ length-replicate {A = ℕ} 9296 0
-
-  second-long : length u ≡ 9296
-  second-long = ap length f ∙ length-paste t 16 kinds 7680 (omega (arith, first-long)) (omega arith) ∙ first-long
-
-  third-long : length v ≡ 9296
-  third-long = ap length g ∙ length-paste u 7696 rows 1600 (omega (arith, second-long)) (omega arith) ∙ second-long
-
-  head-put : (i : ℕ) → getD t i 0 ≡ word head i
-  head-put i = rw e (rw (paste-over [] (replicate 9296 0) head 0 4 refl (omega arith), take-all 4 head (omega arith)) (over-zeros head 9296 i))
-
-  before-rows : (i : ℕ) → i < 7696 → getD v i 0 ≡ getD u i 0
-  before-rows i l = rw g (before-put u 7696 rows 1600 (omega (arith, second-long)) (omega arith) i l)
-
-  put-word : (i : ℕ) → i < 9296 → getD v i 0 ≡ partWord head kinds rows i
-  unfolding partWord
-  put-word i m = go (ltb i 16) refl (ltb i 7696) refl
-    where
-      go : (x : Bool) → ltb i 16 ≡ x → (y : Bool) → ltb i 7696 ≡ y → getD v i 0 ≡ partWord head kinds rows i
-      go true p y q =
-          let l = ltb-true i 16 p in
-          rw p (before-rows i (omega arith) ∙ rw f (before-put t 16 kinds 7680 (omega (arith, first-long)) (omega arith) i l) ∙ head-put i)
-      go false p true q =
-          let a = ltb-false i 16 p in
-          let l = ltb-true i 7696 q in
-          let z : 16 + (i - 16) ≡ i = omega arith in
-          rw (p, q) (before-rows i l ∙ subst (λ (j : ℕ). getD u j 0 ≡ word kinds (i - 16)) z (rw f (within-put t 16 kinds 7680 (omega (arith, first-long)) (omega arith) (i - 16) (omega arith))))
-      go false p false q =
-          let a = ltb-false i 7696 q in
-          let z : 7696 + (i - 7696) ≡ i = omega arith in
-          rw (p, q) (subst (λ (j : ℕ). getD v j 0 ≡ word rows (i - 7696)) z (rw g (within-put u 7696 rows 1600 (omega (arith, second-long)) (omega arith) (i - 7696) (omega arith))))
-
-  pub parts-put : v ≡ tab (partWord head kinds rows) 9296
-  parts-put = ext-getD 0 v (tab (partWord head kinds rows) 9296) (third-long ∙ sym (length-tab (partWord head kinds rows) 9296)) (λ i l. let m : i < 9296 = omega (arith, third-long) in put-word i m ∙ sym (tab-at (partWord head kinds rows) 9296 i 0 m))
-
--- the head of an image, by how many words its rows in force take
+-- ---- the words of the front
+-- the head, by how many words the rows in force take
 pub head-told : (s : List ℕ) (used : ℕ) {v : List ℕ} → used ≡ length (inForce (catalogIn s)) → v ≡ kindCount s ∷ used / 4 ∷ indexWord (link (catalogIn s) (idAt s 12)) ∷ indexWord (link (catalogIn s) (idAt s 44)) ∷ [] → v ≡ headWords (catalogIn s)
 unfolding headWords catalogIn
 head-told s used e q = q ∙ rw e
 
-pub table-told : (s head kinds rows : List ℕ) (used a b : ℕ) {v : List ℕ} → used ≡ length (inForce (catalogIn s))
-    → head ≡ kindCount s ∷ used / 4 ∷ indexWord (link (catalogIn s) (idAt s 12)) ∷ indexWord (link (catalogIn s) (idAt s 44)) ∷ []
-    → kinds ≡ overlay (tab (kindsWord (catalogIn s)) (32 * kindCount s)) (replicate a 0) → rows ≡ overlay (inForce (catalogIn s)) (replicate b 0)
-    → v ≡ tab (partWord head kinds rows) tableSize → v ≡ tableWords (catalogIn s)
-unfolding tableWords catalogIn
-table-told s head kinds rows used a b e h k r q = q ∙ parts-told (catalogIn s) head kinds rows a b (head-told s used e h) k r tableSize
+-- over zeros
+first-told : (C : Catalog) {head first : List ℕ} → head ≡ headWords C → first ≡ paste (replicate 16 0) 0 head 4 → first ≡ tab (tableWord C) 16
+unfolding tab tableWord headWords
+first-told C h f = f ∙ rw h
 
--- ---- the counts' limits
-pub words-within : (s : List ℕ) → kindCount s ≤ 240 → rowCount s ≤ 200 → wordsFor s ≡ tableWords (catalogIn s)
-unfolding wordsFor
-words-within s h l = rw (le-leb (kindCount s) 240 h, le-leb (rowCount s) 200 l)
+-- the kinds behind it
+kind-behind : (C : Catalog) (n i : ℕ) → n ≤ C .kindCount → n ≤ 240 → i < 32 * n → tableWord C (16 + i) ≡ kindsWord C i
+unfolding kindsWord
+kind-behind C n i h k l =
+    let z : 16 + i ≡ 16 + 32 * (i / 32) + i % 32 = omega arith in
+    ap (tableWord C) z ∙ word-of-kind C (i / 32) (i % 32) (omega arith) (omega arith) (omega arith)
 
-pub links-within : (s : List ℕ) → kindCount s ≤ 240 → rowCount s ≤ 200 → linksFor s ≡ linksIn s
-unfolding linksFor
-links-within s h l = rw (le-leb (kindCount s) 240 h, le-leb (rowCount s) 200 l)
+front-split : (s : List ℕ) → kindCount s ≤ 240 → frontIn s ≡ tab (tableWord (catalogIn s)) 16 ++ tab (kindsWord (catalogIn s)) (32 * kindCount s)
+unfolding frontIn
+front-split s h =
+    let l : kindCount s ≤ catalogIn s .kindCount = rw (count-in s) (omega arith) in
+    tab-append (tableWord (catalogIn s)) 16 (32 * kindCount s)
+    ∙ ap (λ (k : List ℕ). tab (tableWord (catalogIn s)) 16 ++ k) (tab-same (λ i. tableWord (catalogIn s) (16 + i)) (kindsWord (catalogIn s)) (32 * kindCount s) (λ i m. kind-behind (catalogIn s) (kindCount s) i l h m))
 
--- what the code knows of them
-module _ (s : List ℕ) {a b : ℕ} (p : a ≡ kindCount s) (q : b ≡ rowCount s) where
-  told : {t : Bool} → (leb a 240 && leb b 200) ≡ t → (leb (kindCount s) 240 && leb (rowCount s) 200) ≡ t
-  told e = rw (p, q) at e
+-- ---- one list over the front of another, then more behind it
+pub over-over : (p q t : List ℕ) → overlay (p ++ q) (overlay p t) ≡ overlay (p ++ q) t
+over-over p q t = rw (length-append p q, drop-append-add p (drop (length p) t) (length q), drop-drop (length q) (length p) t)
 
-  pub limits-kept : (leb a 240 && leb b 200) ≡ true → (kindCount s ≤ 240) × (rowCount s ≤ 200)
+-- and over the part of a list from a on, which then stands in its place again
+pub put-tail : (t q : List ℕ) (a : ℕ) {v : List ℕ} → a ≤ length t → v ≡ overlay q (take (length t - a) (drop a t)) → take a t ++ (v ++ drop (length t - a) (drop a t)) ≡ overlay (take a t ++ q) t
+put-tail t q a {v} h e =
+    let l : length (drop a t) ≤ length t - a = rw (length-drop a t) (omega arith) in
+    let m : length (take a t) ≡ a = length-take-le a t h in
+    rw (e, take-all (length t - a) (drop a t) l, drop-of-length-le (drop a t) l, append-nil, length-append (take a t) q, m, drop-drop (length q) a t, append-assoc)
+
+-- ---- the front of an image put over that of t: u has its head, and the kinds go to the part of u behind it
+module _ (s t : List ℕ) {head first kinds u : List ℕ} (used : ℕ) (h : kindCount s ≤ 240) (e : used ≡ length (inForce (catalogIn s)))
+    (i : head ≡ kindCount s ∷ used / 4 ∷ indexWord (link (catalogIn s) (idAt s 12)) ∷ indexWord (link (catalogIn s) (idAt s 44)) ∷ [])
+    (f : first ≡ paste (replicate 16 0) 0 head 4) (p : u ≡ paste t 0 first 16) (k : kinds ≡ overlay (tab (kindsWord (catalogIn s)) (32 * kindCount s)) (take (length u - 16) (drop 16 u))) where
+  first-is : first ≡ tab (tableWord (catalogIn s)) 16
+  first-is = first-told (catalogIn s) (head-told s used e i) f
+
+  first-long : length first ≡ 16
+  first-long = ap length first-is ∙ length-tab (tableWord (catalogIn s)) 16
+
+  headed : u ≡ overlay first t
+  headed = p ∙ paste-over [] t first 0 16 refl (omega (arith, first-long)) ∙ ap (λ (l : List ℕ). overlay l t) (take-all 16 first (omega (arith, first-long)))
+
+  headed-front : take 16 u ≡ first
+  headed-front = ap (take 16) headed ∙ take-at first (drop (length first) t) 16 first-long
+
+  headed-long : 16 ≤ length u
+  headed-long = rw (headed, length-append first (drop (length first) t)) (omega (arith, first-long))
+
+  pub front-made : take 16 u ++ (kinds ++ drop (length u - 16) (drop 16 u)) ≡ overlay (frontIn s) t
+  front-made =
+      put-tail u (tab (kindsWord (catalogIn s)) (32 * kindCount s)) 16 headed-long k
+      ∙ rw (headed-front, headed) (over-over first (tab (kindsWord (catalogIn s)) (32 * kindCount s)) t)
+      ∙ ap (λ (l : List ℕ). overlay l t) (ap (λ (l : List ℕ). l ++ tab (kindsWord (catalogIn s)) (32 * kindCount s)) first-is ∙ sym (front-split s h))
+
+pub rows-made : (s : List ℕ) {v : List ℕ} → v ≡ overlay (inForce (catalogIn s)) (replicate 1600 0) → v ≡ rowsIn s
+unfolding rowsIn
+rows-made s e = e
+
+-- ---- the limits, and room for the front in n words
+pub fits-told : (s : List ℕ) (n : ℕ) → kindCount s ≤ 240 → rowCount s ≤ 200 → 16 + 32 * kindCount s ≤ n → fitsIn s n ≡ true
+unfolding fitsIn
+fits-told s n h l m = rw (le-leb (kindCount s) 240 h, le-leb (rowCount s) 200 l, le-leb (16 + 32 * kindCount s) n m)
+
+module _ (s : List ℕ) (n : ℕ) {b : Bool} (e : b ≡ fitsIn s n) where
+  pub limits-kept : b ≡ true → (kindCount s ≤ 240) × ((rowCount s ≤ 200) × (16 + 32 * kindCount s ≤ n))
+  unfolding fitsIn
   limits-kept t =
-      (leb-true (kindCount s) 240 (and-left (leb (kindCount s) 240) (leb (rowCount s) 200) (told t)), leb-true (rowCount s) 200 (and-right (leb (kindCount s) 240) (leb (rowCount s) 200) (told t)))
+      let f : ((leb (kindCount s) 240 && leb (rowCount s) 200) && leb (16 + 32 * kindCount s) n) ≡ true = sym e ∙ t in
+      let g = and-left (leb (kindCount s) 240 && leb (rowCount s) 200) (leb (16 + 32 * kindCount s) n) f in (
+        leb-true (kindCount s) 240 (and-left (leb (kindCount s) 240) (leb (rowCount s) 200) g),
+        (leb-true (rowCount s) 200 (and-right (leb (kindCount s) 240) (leb (rowCount s) 200) g), leb-true (16 + 32 * kindCount s) n (and-right (leb (kindCount s) 240 && leb (rowCount s) 200) (leb (16 + 32 * kindCount s) n) f)),
+      )
 
-  module _ {v w : List ℕ} where
-    pub within-limits : (leb a 240 && leb b 200) ≡ true → v ≡ tableWords (catalogIn s) → w ≡ linksIn s → (v ≡ wordsFor s) × (w ≡ linksFor s)
-    unfolding wordsFor linksFor
-    within-limits t e f = (rw (told t) e, rw (told t) f)
+module _ (s t : List ℕ) {b : Bool} (e : b ≡ fitsIn s (length t)) {v w u : List ℕ} where
+  pub within-limits : b ≡ true → v ≡ rowsIn s → w ≡ linksIn s → u ≡ overlay (frontIn s) t → (v ≡ rowsFor s (length t)) × ((w ≡ linksFor s (length t)) × (u ≡ frontAfter s t))
+  unfolding rowsFor linksFor frontAfter
+  within-limits p f g h = let z : fitsIn s (length t) ≡ true = sym e ∙ p in (rw z f, (rw z g, rw z h))
 
-    pub over-limits : (leb a 240 && leb b 200) ≡ false → v ≡ replicate tableSize 0 → w ≡ replicate 600 65535 → (v ≡ wordsFor s) × (w ≡ linksFor s)
-    unfolding wordsFor linksFor
-    over-limits t e f = (rw (told t) e, rw (told t) f)
+  pub over-limits : b ≡ false → v ≡ replicate 1600 0 → w ≡ replicate 600 65535 → u ≡ t → (v ≡ rowsFor s (length t)) × ((w ≡ linksFor s (length t)) × (u ≡ frontAfter s t))
+  unfolding rowsFor linksFor frontAfter
+  over-limits p f g h = let z : fitsIn s (length t) ≡ false = sym e ∙ p in (rw z f, (rw z g, rw z h))

@@ -1,7 +1,7 @@
 -- Lists put one after the other over the front of a list, by a loop that copies (`appends`). t is the list now, t₀ as it was at first, `at` how much
 -- of it is written. Assumes nothing.
 use Prim.Native.Nat.{ℕ, zero, suc, _+_, _-_, _<_, _≤_}
-use mathlib.Core.Path.{_≡_, refl, sym, _∙_, ap, subst}
+use mathlib.Core.Path.{_≡_, refl, sym, _∙_, ap}
 use mathlib.Core.Bool.{Bool, true, false}
 use mathlib.Core.List.{List, [], _++_, append-nil}
 use native.Mathlib.Nat.{le-antisymm}
@@ -10,7 +10,7 @@ use native.Mathlib.Omega.{arith}
 use borrow.Author.Tests.{ltb-true, ltb-false}
 use lib.Dec.{ltb}
 use lib.ListN.{length, getD, set, take, drop, replicate, length-append, length-replicate, drop-of-length-le, List·getD-append, List·getD-eq-default}
-use lib.Seq.{paste, paste-zero, paste-suc, take-all, length-paste, take-append-seam, drop-append-add, drop-drop, length-take-le, getD-append-add, getD-drop, getD-take, length-paste-head}
+use lib.Seq.{paste, paste-zero, paste-suc, take-all, length-paste, take-append-seam, drop-append-add, drop-drop, length-take-le, getD-append-add, getD-drop}
 use Rattle.laws.specs.Ranges.{overlay}
 use Rattle.written.specs.Shown.{flat}
 
@@ -88,19 +88,3 @@ two-parts a b m n {t} {v} e x p q =
     let w : v ≡ overlay (a ++ b) (replicate (m + n) 0) = x ∙ rw u (paste-over a (replicate (m + n) 0) b m n (sym p) k ∙ rw z) in
     let o : length (replicate {A = ℕ} (m + n) 0) ≤ length (a ++ b) = rw (length-replicate {A = ℕ} (m + n) 0, length-append a b) (omega arith) in
     w ∙ rw (drop-of-length-le (replicate (m + n) 0) o) (append-nil (a ++ b))
-
--- ---- what is read of a list d into which n elements of w were put
-module _ (d : List ℕ) (at : ℕ) (w : List ℕ) (n : ℕ) (h : at ≤ length d) (k : n ≤ length w) where
-  pub before-put : (i : ℕ) → i < at → getD (paste d at w n) i 0 ≡ getD d i 0
-  before-put i l =
-      let m : length (take at d) ≡ at = length-take-le at d h in
-      List·getD-append (take at d ++ take n w) (drop (at + n) d) 0 i (rw (length-paste-head d at w n h k) (omega arith))
-      ∙ List·getD-append (take at d) (take n w) 0 i (rw m l)
-      ∙ getD-take at d i 0 l
-
-  pub within-put : (j : ℕ) → j < n → getD (paste d at w n) (at + j) 0 ≡ getD w j 0
-  within-put j l =
-      let m : length (take at d) ≡ at = length-take-le at d h in
-      let q : getD (take at d ++ take n w) (length (take at d) + j) 0 ≡ getD (take n w) j 0 = getD-append-add (take at d) (take n w) j 0 in
-      let r : getD (take at d ++ take n w) (at + j) 0 ≡ getD (take n w) j 0 = subst (λ (x : ℕ). getD (take at d ++ take n w) (x + j) 0 ≡ getD (take n w) j 0) m q in
-      List·getD-append (take at d ++ take n w) (drop (at + n) d) 0 (at + j) (rw (length-paste-head d at w n h k) (omega arith)) ∙ r ∙ getD-take n w j 0 l

@@ -1,10 +1,10 @@
 -- The words of an image, and what private functions of the crate compute on the way to them.
-use Prim.Native.Nat.{ℕ, zero, suc, _+_, _*_, _-_, _/_, _%_}
+use Prim.Native.Nat.{ℕ, zero, suc, _+_, _*_, _/_, _%_}
 use mathlib.Core.Bool.{Bool, cond, not, _&&_}
 use mathlib.Core.List.{List, [], _∷_, _++_}
 use mathlib.Core.Option.{Option}
 use lib.Dec.{eqb, ltb, leb}
-use lib.ListN.{getD, replicate}
+use lib.ListN.{length, getD, replicate}
 use Rattle.laws.specs.Options.{found, isSome}
 use Rattle.laws.specs.Ranges.{first, tab, overlay}
 use Rattle.dimension.specs.Dimension as D
@@ -12,13 +12,9 @@ use Rattle.dimension.specs.declared.dimensions.Dimensions.{Dimensions}
 use Rattle.rules.specs.Kinds.{opWord}
 use Rattle.rules.specs.Layout.{kindCount, rowCount}
 use Rattle.rules.specs.Catalog.{Kind, Row, Catalog, idAt, kindAt, kindFrom, rowAt, rowFrom, catalogIn, find, link}
-use Rattle.rules.specs.Table.{word, tableSize, tableWords, entriesOf, exponentWord, indexWord, kindWord}
+use Rattle.rules.specs.Table.{entriesOf, inForce, exponentWord, indexWord, kindWord, tableWord}
 use Rattle.error.specs.declared.answer.Link.{Link}
 use Rattle.error.specs.declared.answer.Link.the-variants.{To, Nowhere}
-
--- what a compilation writes; counts over the limits are refused before one asks
-unfoldable pub wordsFor : List ℕ → List ℕ
-wordsFor s = cond (leb (kindCount s) 240 && leb (rowCount s) 200) (tableWords (catalogIn s)) (replicate tableSize 0)
 
 -- f 0, .., f (n - 1), one after the other
 unfoldable pub flat : (ℕ → List ℕ) → ℕ → List ℕ
@@ -88,11 +84,26 @@ rowLink s j = indexWord (find (catalogIn s) (idAt s (rowAt s (j / 3) + 32 * (j %
 abbrev pub linksIn : List ℕ → List ℕ
 linksIn s = overlay (tab (rowLink s) (3 * rowCount s)) (replicate 600 65535)
 
--- beside the words of a compilation
-unfoldable pub linksFor : List ℕ → List ℕ
-linksFor s = cond (leb (kindCount s) 240 && leb (rowCount s) 200) (linksIn s) (replicate 600 65535)
+-- the words of the rows in force, with zeros past them
+unfoldable pub rowsIn : List ℕ → List ℕ
+rowsIn s = overlay (inForce (catalogIn s)) (replicate 1600 0)
 
 -- ---- the table
--- word i of a head, then kinds, then rows
-unfoldable pub partWord : List ℕ → List ℕ → List ℕ → ℕ → ℕ
-partWord head kinds rows i = cond (ltb i 16) (word head i) (cond (ltb i 7696) (word kinds (i - 16)) (word rows (i - 7696)))
+-- its front: the head, and behind it the kinds
+unfoldable pub frontIn : List ℕ → List ℕ
+frontIn s = tab (tableWord (catalogIn s)) (16 + 32 * kindCount s)
+
+-- the counts are within their limits, and the front has room in n words; other counts are refused before a compilation asks
+unfoldable pub fitsIn : List ℕ → ℕ → Bool
+fitsIn s n = leb (kindCount s) 240 && leb (rowCount s) 200 && leb (16 + 32 * kindCount s) n
+
+-- what words t that are lent for the front hold then
+unfoldable pub frontAfter : List ℕ → List ℕ → List ℕ
+frontAfter s t = cond (fitsIn s (length t)) (overlay (frontIn s) t) t
+
+-- the rows and their links beside n such words
+unfoldable pub rowsFor : List ℕ → ℕ → List ℕ
+rowsFor s n = cond (fitsIn s n) (rowsIn s) (replicate 1600 0)
+
+unfoldable pub linksFor : List ℕ → ℕ → List ℕ
+linksFor s n = cond (fitsIn s n) (linksIn s) (replicate 600 65535)

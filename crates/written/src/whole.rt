@@ -1,4 +1,4 @@
-// The table: a head, the kinds, the rows in force.
+// The table: its front, which is a head and the kinds, and the rows in force.
 use crate::kinds::kinds_words;
 use crate::links::link_word;
 use crate::rows::row_links;
@@ -10,23 +10,23 @@ use catalog::keys_of;
 use catalog::kind_count;
 use catalog::row_count;
 use table::Head;
+use table::KIND;
 use table::KINDS;
 use table::ROW;
-use table::ROWS;
 ghost use mathlib.Core.Path.{_≡_};
 ghost use mathlib.Core.List.{[], _∷_};
-ghost use Prim.Native.Nat.{_/_, _≤_, _<_};
+ghost use Prim.Native.Nat.{_+_, _*_, _/_, _≤_};
 ghost use lib.ListN.{length};
-ghost use Rattle.laws.specs.Ranges.{tab};
+ghost use Rattle.laws.specs.Ranges.{overlay};
 ghost use Rattle.rules.specs.Layout as layout;
 ghost use Rattle.rules.specs.Catalog.{catalogIn, idAt, link};
-ghost use Rattle.rules.specs.Table.{indexWord, tableWords};
+ghost use Rattle.rules.specs.Table.{indexWord, inForce};
 ghost use Rattle.catalog.specs.Keys.{keysIn};
-ghost use Rattle.written.specs.Shown.{partWord, wordsFor, linksIn, linksFor};
+ghost use Rattle.written.specs.Shown.{frontIn, frontAfter, fitsIn, rowsIn, rowsFor, linksIn, linksFor};
 
-// The words that a compilation writes, and what the ids of the rows name: three a row (left, right, result), 65,535 for none.
+// The words of the rows in force, with zeros past them, and what the ids of the rows name: three a row (left, right, result), 65,535 for none.
 pub struct Written {
-    pub words: [u32; 9296],
+    pub rows: [u32; 1600],
     pub links: [u16; 600],
 }
 
@@ -44,51 +44,60 @@ fn head_words(image: &[u8], keys: &[u32], used: usize) -> Head
     )
 }
 
-// The three parts as one, each put at its place.
-fn joined(head: &[u32], kinds: &[u32], rows: &[u32]) -> [u32; 9296]
-    requires { ⌜ length (now head) ≡ 4 ⌝ }
-    requires { ⌜ length (now kinds) ≡ 7680 ⌝ }
-    requires { ⌜ length (now rows) ≡ 1600 ⌝ }
-    ensures { λ r. ⌜ r ≡ tab (partWord (now (head .entry)) (now (kinds .entry)) (now (rows .entry))) 9296 ⌝ }
+// Writes the front over that of t: the head, zeros up to the kinds, the kinds.
+fn front_words(image: &[u8], keys: &[u32], used: usize, t: &mut [u32])
+    requires { ⌜ now keys ≡ keysIn (now image) ⌝ }
+    requires { ⌜ used ≡ length (inForce (catalogIn (now image))) ⌝ }
+    requires { ⌜ used ≤ 1600 ⌝ }
+    requires { ⌜ layout.kindCount (now image) ≤ 240 ⌝ }
+    requires { ⌜ 16 + 32 * layout.kindCount (now image) ≤ length (now t) ⌝ }
+    ensures { λ _. ⌜ now (t .exit) ≡ overlay (frontIn (now (image .entry))) (now (t .entry)) ⌝ }
 {
-    let mut t = [0u32; 9296];
-    put(&mut t, 0, head, 4);
-    put(&mut t, KINDS, kinds, 7680);
-    put(&mut t, ROWS, rows, 1600);
-    t
+    let head = head_words(image, keys, used);
+    let mut first = [0u32; 16];
+    put(&mut first, 0, &head, 4);
+    put(t, 0, &first, KINDS);
+    kinds_words(image, keys, &mut t[KINDS..]);
 }
 
-// The words and links of a catalog within the limits.
-fn table_of(image: &[u8]) -> Written
+// The parts of a catalog whose front has room in t.
+fn parts_of(image: &[u8], t: &mut [u32]) -> Written
     requires { ⌜ layout.kindCount (now image) ≤ 240 ⌝ }
     requires { ⌜ layout.rowCount (now image) ≤ 200 ⌝ }
-    ensures { λ r. ⌜ r .words ≡ tableWords (catalogIn (now (image .entry))) ⌝ }
+    requires { ⌜ 16 + 32 * layout.kindCount (now image) ≤ length (now t) ⌝ }
+    ensures { λ r. ⌜ r .rows ≡ rowsIn (now (image .entry)) ⌝ }
     ensures { λ r. ⌜ r .links ≡ linksIn (now (image .entry)) ⌝ }
+    ensures { λ _. ⌜ now (t .exit) ≡ overlay (frontIn (now (image .entry))) (now (t .entry)) ⌝ }
 {
     let listed = keys_of(image);
     let keys = listed.words;
     let links = row_links(image, &keys);
-    let kinds = kinds_words(image, &keys);
     let force = rows_words(image, &links);
-    let head = head_words(image, &keys, force.used);
+    front_words(image, &keys, force.used, t);
     let rows = force.words;
-    Written {
-        words: joined(&head, &kinds, &rows),
-        links,
-    }
+    Written { rows, links }
 }
 
-// The words that a compilation writes, and the links of the rows. Zeros and no links where a count is over its limit, which is refused before a
-// compilation asks.
-pub fn table_words(image: &[u8]) -> Written
-    ensures { λ r. ⌜ r .words ≡ wordsFor (now (image .entry)) ⌝ }
-    ensures { λ r. ⌜ r .links ≡ linksFor (now (image .entry)) ⌝ }
+// Whether the counts are within their limits and the front has room in n words.
+fn fits(image: &[u8], n: usize) -> bool
+    ensures { λ r. ⌜ r ≡ fitsIn (now (image .entry)) n ⌝ }
 {
-    if (kind_count(image) <= 240) & (row_count(image) <= 200) {
-        return table_of(image);
+    let kinds = kind_count(image);
+    (kinds <= 240) & (row_count(image) <= 200) & (KINDS + KIND * kinds as usize <= n)
+}
+
+// The words that a compilation writes, in two parts: the front over that of the lent words t, and the rows in force, with what their ids name. No
+// rows and no links, and t as it was, where a count is over its limit or t is too short.
+pub fn table_words(image: &[u8], t: &mut [u32]) -> Written
+    ensures { λ r. ⌜ r .rows ≡ rowsFor (now (image .entry)) (length (now (t .entry))) ⌝ }
+    ensures { λ r. ⌜ r .links ≡ linksFor (now (image .entry)) (length (now (t .entry))) ⌝ }
+    ensures { λ _. ⌜ now (t .exit) ≡ frontAfter (now (image .entry)) (now (t .entry)) ⌝ }
+{
+    if fits(image, t.len()) {
+        return parts_of(image, t);
     }
     Written {
-        words: [0; 9296],
+        rows: [0; 1600],
         links: [65535; 600],
     }
 }
