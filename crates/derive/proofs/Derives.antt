@@ -54,15 +54,16 @@ module _ {v : Derivation} (m : Answer Graded) where
 
 pub ruleset derivations = (fine-told, given-dims, given-grade)
 
--- ---- met, with what is known of each operand
-is-none : {A : Type 0} (o : Option A) {b : Bool} → b ≡ isSome o → not b ≡ true → o ≡ none
+-- ---- whether there is something: b says it
+pub is-none : {A : Type 0} (o : Option A) {b : Bool} → b ≡ isSome o → not b ≡ true → o ≡ none
 is-none (some a) {b} e p = let z : b ≡ false = not-true b p in cc
 is-none none e p = refl
 
-is-some : {A : Type 0} (o : Option A) (z : A) {b : Bool} → b ≡ isSome o → not b ≡ false → o ≡ some (found o (λ d. d) z)
+pub is-some : {A : Type 0} (o : Option A) (z : A) {b : Bool} → b ≡ isSome o → not b ≡ false → o ≡ some (found o (λ d. d) z)
 is-some (some a) z e p = refl
 is-some none z {b} e p = let y : b ≡ true = not-false b p in cc
 
+-- ---- met, with what is known of each operand
 module _ (K : Kinds) (l : ℕ) (op : ProductOp) (r : ℕ) where
   left-none : K .dims l ≡ none → ruled.Refused (cause.UnresolvedDimensions l) ≡ ruledAs (rule.derive K l op r)
   unfolding rule.derive rule.operand

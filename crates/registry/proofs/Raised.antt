@@ -1,10 +1,10 @@
 -- A power's answer: one law a return. Assumes nothing.
 use Prim.Native.Nat.{ℕ}
-use mathlib.Core.Path.{_≡_, refl}
+use mathlib.Core.Path.{_≡_}
 use mathlib.Core.Bool.{Bool, true, false, not}
-use mathlib.Core.Option.{Option, some, none}
-use borrow.Author.Tests.{eq-eqb, ne-eqb, not-true, not-false}
-use Rattle.laws.specs.Options.{found, isSome}
+use mathlib.Core.Option.{some, none}
+use borrow.Author.Tests.{eq-eqb, ne-eqb}
+use Rattle.laws.specs.Options.{isSome}
 use Rattle.dimension.specs.Fraction as F
 use Rattle.dimension.specs.Dimension as D
 use Rattle.dimension.specs.declared.rational.Rational.{Rational}
@@ -25,15 +25,8 @@ use Rattle.fitting.specs.declared.sought.Fit.{Fit}
 use Rattle.fitting.specs.declared.sought.Fit.the-variants.{Only, Second, Nothing}
 use Rattle.fitting.proofs.Twins.{fitting-only, fitting-second, fitting-nothing, twins-counted}
 use Rattle.joined.specs.Shown.{dimsAt}
+use Rattle.derive.proofs.Derives.{is-none, is-some}
 use Rattle.registry.specs.Shown.{looked, kindAs, no, raisedAs, fittedPower, overAs}
-
-is-none : (a : Option Dimensions) {b : Bool} → b ≡ isSome a → not b ≡ true → a ≡ none
-is-none (some x) {b} t p = let z : b ≡ false = not-true b p in cc
-is-none none t p = refl
-
-is-some : (a : Option Dimensions) {b : Bool} → b ≡ isSome a → not b ≡ false → a ≡ some (found a (λ d. d) D.one)
-is-some (some x) t p = refl
-is-some none {b} t p = let z : b ≡ true = not-false b p in cc
 
 module _ (K : Kinds) (k : ℕ) (e : Rational) {v : Answer} where
   -- ---- the only kind that fits these dimensions: c is what the words stand for, w what was found
@@ -81,7 +74,7 @@ module _ (K : Kinds) (k : ℕ) (e : Rational) {v : Answer} where
 
       pub raised-resolved : not b ≡ false → {d : Dimensions} → d ≡ dimsAt K k → v ≡ looked (overAs K k e d) → v ≡ looked (rule.raised K k e)
       unfolding rule.raised rule.operand
-      raised-resolved p q h = rw (← f, eq-eqb g 0 z, is-some (K .dims k) r p, ← q) h
+      raised-resolved p q h = rw (← f, eq-eqb g 0 z, is-some (K .dims k) D.one r p, ← q) h
 
   -- ---- 43, one
   module _ (code : ℕ) {b : Bool} (f : b ≡ point K k) where
