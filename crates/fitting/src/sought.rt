@@ -69,7 +69,18 @@ fn fits_within(t: &[u32], k: usize, w: &[u32], g: u32) -> bool
     fits_whole(t, k as u16, w, g)
 }
 
-// The first kind from `from` on, of the first n, whose words are all there, that fits, or n.
+// The place of a numerator to compare first, one that has two bases' behind it.
+fn lead(w: &[u32]) -> usize
+    ensures { λ v. ⌜ v < 20 ⌝ }
+{
+    let p = pivot(w);
+    if 18 < p {
+        return 18;
+    }
+    p
+}
+
+// The first kind from `from` on, of the first n, that fits, or n. The words of all n are there.
 fn next_within(t: &[u32], w: &[u32], g: u32, from: usize, n: usize, a: usize) -> usize
     requires { ⌜ kindPlace n ≤ length (now t) ⌝ }
     requires { ⌜ 24 ≤ length (now w) ⌝ }
@@ -90,18 +101,7 @@ fn next_within(t: &[u32], w: &[u32], g: u32, from: usize, n: usize, a: usize) ->
     k
 }
 
-// The place of a numerator to compare first, one that has two bases' behind it.
-fn lead(w: &[u32]) -> usize
-    ensures { λ v. ⌜ v < 20 ⌝ }
-{
-    let p = pivot(w);
-    if 18 < p {
-        return 18;
-    }
-    p
-}
-
-// The same where words may be missing.
+// The same where some of their words may be missing.
 fn next_read(t: &[u32], w: &[u32], g: u32, from: usize, n: usize) -> usize
     requires { ⌜ n ≤ 240 ⌝ }
     requires { ⌜ from ≤ n ⌝ }

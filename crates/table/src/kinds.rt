@@ -54,7 +54,7 @@ pub fn dims_of(t: &[u32], k: u16) -> Dimensions
     ensures { λ r. ⌜ r ≡ found (T.kindsOf (now (t .entry)) .dims k) (λ d. d) D.one ⌝ }
 {
     if is_resolved(t, k) {
-        return dims_from(t, KINDS + KIND * k as usize);
+        return dims_from(t, (KINDS + KIND * k as usize) as u32);
     }
     Dimensions::one()
 }

@@ -35,6 +35,7 @@ pub use rows::own_rows;
 pub use rows::row_of;
 pub use words::Exponents;
 pub use words::dims_in;
+pub use words::exponent;
 pub use words::index_or;
 pub use words::word;
 pub use words::words_of;

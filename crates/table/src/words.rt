@@ -26,26 +26,24 @@ pub fn index_or(w: u32) -> Link
 }
 
 // The exponent of base b: the numerator's bits, then the denominator.
-fn exponent(t: &[u32], p: usize, b: usize) -> Rational
-    requires { ⌜ p < 4294967296 ⌝ }
-    requires { ⌜ b < 12 ⌝ }
+pub fn exponent(t: &[u32], p: u32, b: u32) -> Rational
     ensures { λ r. ⌜ r ≡ T.exponentFrom (now (t .entry)) p b ⌝ }
 {
-    let num = dimension::signed32(word(t, p + 2 * b));
-    let den = word(t, p + 2 * b + 1);
+    let i = p as usize + 2 * b as usize;
+    let num = dimension::signed32(word(t, i));
+    let den = word(t, i + 1);
     Rational { num, den }
 }
 
 // The twelve exponents from place p on.
-pub(crate) fn dims_from(t: &[u32], p: usize) -> Dimensions
-    requires { ⌜ p < 4294967296 ⌝ }
+pub(crate) fn dims_from(t: &[u32], p: u32) -> Dimensions
     ensures { λ r. ⌜ r ≡ T.dimsFrom (now (t .entry)) p ⌝ }
 {
     let mut d = Dimensions::one();
-    let mut b: usize = 0;
+    let mut b: u32 = 0;
     while b < 12 {
         let x = exponent(t, p, b);
-        d.powers[b] = x;
+        d.powers[b as usize] = x;
         b += 1;
     }
     d
@@ -57,10 +55,10 @@ pub fn dims_in(w: &[u32]) -> Dimensions
     ensures { λ r. ⌜ r ≡ T.dimsFrom (now (w .entry)) 0 ⌝ }
 {
     let mut d = Dimensions::one();
-    let mut b: usize = 0;
+    let mut b: u32 = 0;
     while b < 12 {
         let x = exponent(w, 0, b);
-        d.powers[b] = x;
+        d.powers[b as usize] = x;
         b += 1;
     }
     d

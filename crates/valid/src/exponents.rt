@@ -1,10 +1,10 @@
 // The exponents of a kind: each a fraction that a catalog can declare.
-use dimension::Rational;
 use joined::whole_from;
 use std::num::wrapping_add_u32;
 use table::FLAG;
 use table::KIND;
 use table::KINDS;
+use table::exponent;
 use table::word;
 ghost use mathlib.Core.Path.{_≡_};
 ghost use Prim.Native.Nat.{_+_, _*_, _<_, _≤_};
@@ -13,17 +13,6 @@ ghost use Rattle.laws.specs.Ranges.{all};
 ghost use Rattle.joined.specs.Shown.{wholeAt};
 ghost use Rattle.rules.specs.Table as T;
 ghost use Rattle.valid.specs.Shown.{ors, raised};
-
-// The exponent of base b: the numerator's bits, then the denominator. `table` has the same for itself; with a premise, neither is public.
-fn exponent(t: &[u32], p: usize, b: usize) -> Rational
-    requires { ⌜ p < 4294967296 ⌝ }
-    requires { ⌜ b < 12 ⌝ }
-    ensures { λ r. ⌜ r ≡ T.exponentFrom (now (t .entry)) p b ⌝ }
-{
-    let num = dimension::signed32(word(t, p + 2 * b));
-    let den = word(t, p + 2 * b + 1);
-    Rational { num, den }
-}
 
 // The exponents of a kind whose dimensions are given. Most are whole, which is seen first.
 pub(crate) fn exponents_fine(t: &[u32], p: usize) -> bool
@@ -36,9 +25,9 @@ pub(crate) fn exponents_fine(t: &[u32], p: usize) -> bool
     if whole_from(t, p) {
         return true;
     }
-    let mut b: usize = 0;
+    let mut b: u32 = 0;
     while b < 12 {
-        if !exponent(t, p, b).declared() {
+        if !exponent(t, p as u32, b).declared() {
             return false;
         }
         b += 1;

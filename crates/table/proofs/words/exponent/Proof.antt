@@ -15,4 +15,4 @@ returns c =
     rw (toZ-ofZ w32 _ h, c .before .signed32 .ensures, ← c .before .before .word .ensures, ← c .word2 .ensures)
 
 pub exponent-spec : {M : Type 1} → statement M
-exponent-spec = tie.close (tie.spec (search needs) (search needs) (search needs) (search needs) (search needs) (search needs) (search needs) (search needs) returns)
+exponent-spec = tie.close (tie.spec (search needs) (search needs) (search needs) (search needs) (search needs) (search needs) returns)

@@ -48,4 +48,4 @@ unfolding T.exponentsFine
 returns-4 c = search (cases, alls, needs) depth 7
 
 pub exponents-fine-spec : {M : Type 1} → statement M
-exponents-fine-spec = tie.close (tie.spec Inv-loop μ-loop (search needs) (search needs) returns (λ c κs. search needs) returns-2 (λ c. search (alls, needs)) (search needs) (search needs) returns-3 (search needs) (search needs) loop-again returns-4)
+exponents-fine-spec = tie.close (tie.spec Inv-loop μ-loop (search needs) (search needs) returns (λ c κs. search needs) returns-2 (λ c. search (alls, needs)) (search needs) (search needs) (search needs) returns-3 (search needs) (search needs) loop-again returns-4)
