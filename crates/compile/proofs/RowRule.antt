@@ -3,7 +3,7 @@
 use Prim.Native.Nat.{ℕ, _+_, _<_, _≤_}
 use mathlib.Core.Path.{_≡_, refl, _∙_, ap}
 use mathlib.Core.Bool.{true, cond, not, _&&_}
-use mathlib.Core.List.{List}
+use mathlib.Core.List.{List, [], _∷_}
 use mathlib.Core.Option.{Option, some, none}
 use native.Mathlib.Nat.{le-trans}
 use native.Mathlib.Omega.{arith}
@@ -15,7 +15,7 @@ use Rattle.laws.proofs.First.{first-below}
 use Rattle.dimension.specs.declared.grade.ProductOp.the-variants.{Div}
 use Rattle.rules.specs.Kinds.{Kinds, Rows, Graded, sameOp, point, carries}
 use Rattle.rules.specs.Refusal.{CommutativeQuotient, Point, InvalidOperationRule}
-use Rattle.rules.specs.Arithmetic.{Resolved, is, twins, nothing, operand, derive, resolve}
+use Rattle.rules.specs.Arithmetic.{operand, derive, resolve}
 use Rattle.rules.specs.Layout.{kindCount, rowCount}
 use Rattle.rules.specs.Catalog.{Catalog, Id, catalogIn, find, covers, rowAmong, kindsOf}
 use Rattle.rules.specs.Compile.{Checked, called, several, fresh, rowRule, eachRecord}
@@ -69,10 +69,10 @@ module _ (C : Catalog) (i : ℕ) (few : C .kindCount ≤ 240) (before : (j : ℕ
   pair-same l r k = rw (fresh-same l r, fresh-same r l)
 
   -- 26
-  several-same : (s : Resolved) (g : Graded) (m : Checked) → orSeveral s g m ≡ (several C s g >> m)
-  several-same (is k) g m = refl
-  several-same (twins ks) g m = refl
-  several-same nothing g m = refl
+  several-same : (s : List ℕ) (g : Graded) (m : Checked) → orSeveral s g m ≡ (several C s g >> m)
+  several-same (k ∷ []) g m = refl
+  several-same (k ∷ j ∷ ks) g m = refl
+  several-same [] g m = refl
 
   -- from 23 on
   abbrev from23 : ℕ → ℕ → ℕ → Checked

@@ -1,6 +1,6 @@
 -- The rule of a row from each of its steps on, one law a return. Assumes nothing.
 use Prim.Native.Nat.{ℕ}
-use mathlib.Core.Path.{_≡_, refl, sym, _∙_}
+use mathlib.Core.Path.{_≡_, refl, sym, _∙_, ap}
 use mathlib.Core.Bool.{Bool, true, false, cond, not, _&&_, true≢false}
 use mathlib.Core.Option.{Option, some, none}
 use borrow.Author.Tests.{not-true, not-false}
@@ -10,7 +10,7 @@ use Rattle.laws.proofs.Cases.{and-left, and-right}
 use Rattle.dimension.specs.Dimension as D
 use Rattle.dimension.specs.declared.dimensions.Dimensions.{Dimensions}
 use Rattle.dimension.specs.declared.grade.ProductOp.{ProductOp}
-use Rattle.dimension.specs.declared.grade.ProductOp.the-variants.{Mul, Div, Dot, Wedge}
+use Rattle.dimension.specs.declared.grade.ProductOp.the-variants.{Div}
 use Rattle.rules.specs.Kinds.{Kinds, Rows, Graded, sameOp, point, carries}
 use Rattle.rules.specs.Refusal.{InvalidOperationRule, codeOf, told}
 use Rattle.rules.specs.Arithmetic as rule
@@ -23,6 +23,7 @@ use Rattle.error.specs.declared.answer.Link.the-variants.{To, Nowhere}
 use Rattle.error.specs.declared.cause.Error.{Error}
 use Rattle.error.specs.declared.cause.Error.the-variants as cause
 use Rattle.fitting.specs.Shown.{at}
+use Rattle.fitting.proofs.Twins.{settle-several}
 use Rattle.derive.specs.declared.resolution.Several.{Several}
 use Rattle.derive.specs.declared.resolution.Several.the-variants as several
 use Rattle.derive.specs.Shown.{derived, severalOf}
@@ -38,20 +39,6 @@ use Rattle.compile.specs.Rows.{isNamed, pairFresh, freshIn, rowSeveral, 
 abbrev no : Error → ℕ → Answer
 no e i = answer (Refused e) i D.one
 
--- ---- operations
-module _ {op : ProductOp} where
-  pub not-mul : op ≡ Mul → false ≡ sameOp op Div
-  not-mul p = rw p
-
-  pub is-div : op ≡ Div → true ≡ sameOp op Div
-  is-div p = rw p
-
-  pub not-dot : op ≡ Dot → false ≡ sameOp op Div
-  not-dot p = rw p
-
-  pub not-wedge : op ≡ Wedge → false ≡ sameOp op Div
-  not-wedge p = rw p
-
 -- ---- a link is there
 module _ (o : Option ℕ) {u : Link} where
   pub link-there : {k : ℕ} → u ≡ To k → u ≡ linked o → true ≡ isSome o
@@ -60,7 +47,7 @@ module _ (o : Option ℕ) {u : Link} where
   pub link-missing : u ≡ Nowhere → u ≡ linked o → false ≡ isSome o
   link-missing p e = rw (nowhere-none o p e)
 
-pub ruleset asked = (not-mul, is-div, not-dot, not-wedge, link-there, link-missing)
+pub ruleset asked = (link-there, link-missing)
 
 -- ---- 27
 is-there : (o : Option ℕ) {t : Bool} → t ≡ true → t ≡ isSome o → (k : ℕ) × (o ≡ some k)
@@ -106,7 +93,7 @@ module _ (K : Kinds) (R : Rows) (x : Row) (i : ℕ) {v : Answer} where
 
       pub several-twins : w ≡ several.Many → v ≡ ruled i (pairFresh R x) → v ≡ ruled i (rowSeveral K R x g)
       unfolding rowSeveral
-      several-twins p h = rw (resolves.several-many (rule.resolve K (x .left) (x .op) (x .right) g) p e .1) h
+      several-twins p h = h ∙ ap (ruled i) (sym (settle-several (rule.resolve K (x .left) (x .op) (x .right) g) _ _ (λ more. pairFresh R x) (resolves.several-many (rule.resolve K (x .left) (x .op) (x .right) g) p e)))
 
       pub several-none : w ≡ several.Nothing → v ≡ ruled i (refused (InvalidOperationRule g)) → v ≡ ruled i (rowSeveral K R x g)
       unfolding rowSeveral

@@ -1,13 +1,14 @@
 -- The rule of a row by what its ids name, over kinds K and the rows R in force before it; and from a step of it on.
 use Prim.Native.Nat.{ℕ}
 use mathlib.Core.Bool.{Bool, cond, not, _&&_}
+use mathlib.Core.List.{List}
 use lib.Dec.{ltb}
 use Rattle.laws.specs.Out.{given, refused, _>>=_, _>>_, refuseIf, refuseFound}
 use Rattle.dimension.specs.declared.grade.ProductOp.{ProductOp}
 use Rattle.dimension.specs.declared.grade.ProductOp.the-variants.{Div}
 use Rattle.rules.specs.Kinds.{Kinds, Rows, Graded, sameOp, point, carries}
 use Rattle.rules.specs.Refusal.{Unknown, CommutativeQuotient, Point, InvalidOperationRule, DerivedOperationRule, ConflictingOperationRule}
-use Rattle.rules.specs.Arithmetic.{Resolved, is, twins, nothing, operand, derive, resolve}
+use Rattle.rules.specs.Arithmetic.{operand, derive, resolve, settle}
 use Rattle.rules.specs.Catalog.{Catalog, find}
 use Rattle.rules.specs.Compile.{Checked}
 use Rattle.rules.specs.Table.{indexWord}
@@ -36,10 +37,8 @@ pairFresh R x = do
   cond (x .commutative) (freshIn R (x .right) (x .op) (x .left)) (given tt)
 
 -- 26, 27
-abbrev pub orSeveral : Resolved → Graded → Checked → Checked
-orSeveral (is k) x m = refused (DerivedOperationRule k)
-orSeveral (twins ks) x m = m
-orSeveral nothing x m = refused (InvalidOperationRule x)
+abbrev pub orSeveral : List ℕ → Graded → Checked → Checked
+orSeveral ks x m = settle ks (refused (InvalidOperationRule x)) (λ k. refused (DerivedOperationRule k)) (λ more. m)
 
 unfoldable pub rowSeveral : Kinds → Rows → Row → Graded → Checked
 rowSeveral K R x g = orSeveral (resolve K (x .left) (x .op) (x .right) g) g (pairFresh R x)

@@ -17,6 +17,7 @@ use error::Error;
 use error::Link;
 use error::Verdict;
 use fitting::carries;
+use joined::is_quotient;
 use table::is_point;
 use table::is_resolved;
 use table::row_of;
@@ -25,9 +26,7 @@ ghost use mathlib.Core.Bool.{cond, not, _&&_};
 ghost use Prim.Native.Nat.{_<_, _≤_};
 ghost use lib.Dec.{eqb};
 ghost use Rattle.laws.specs.Options.{isSome};
-ghost use Rattle.dimension.specs.declared.grade.ProductOp.the-variants.{Div};
 ghost use Rattle.laws.specs.Out.{refused};
-ghost use Rattle.rules.specs.Kinds.{sameOp};
 ghost use Rattle.rules.specs.Refusal.{InvalidOperationRule};
 ghost use Rattle.rules.specs.Layout as layout;
 ghost use Rattle.rules.specs.Catalog.{catalogIn};
@@ -69,17 +68,6 @@ fn is_named(row: Row) -> bool
     ensures { λ r. ⌜ r ≡ isNamed row ⌝ }
 {
     (row.left < 65535) & (row.right < 65535) & (row.result < 65535)
-}
-
-fn is_quotient(op: ProductOp) -> bool
-    ensures { λ r. ⌜ r ≡ sameOp op Div ⌝ }
-{
-    match op {
-        ProductOp::Mul => false,
-        ProductOp::Div => true,
-        ProductOp::Dot => false,
-        ProductOp::Wedge => false,
-    }
 }
 
 // Whether a row in force is for left, operation and right.

@@ -1,5 +1,6 @@
 -- What the code's answers show of the rules'.
 use Prim.Native.Nat.{ℕ}
+use mathlib.Core.List.{List}
 use mathlib.Core.Option.{Option, some, none}
 use Rattle.laws.specs.Out.{given, refused}
 use Rattle.dimension.specs.Dimension as D
@@ -34,10 +35,8 @@ derived (given x) = givenAs (x .dims) (x .grade)
 derived (refused x) = refusedAs (errorOf x)
 
 -- ---- a resolution, without the kinds that fit
-abbrev pub severalOf : rule.Resolved → Several
-severalOf (rule.is k) = Is k
-severalOf (rule.twins ks) = Many
-severalOf rule.nothing = Nothing
+abbrev pub severalOf : List ℕ → Several
+severalOf ks = rule.settle ks Nothing Is (λ more. Many)
 
 -- ---- a link as the rules' option
 abbrev pub unlinked : Link → Option ℕ

@@ -23,7 +23,7 @@ pub enum Several {
 }
 
 fn fitting(t: &[u32], d: Dimensions, g: u32) -> Several
-    ensures { λ v. ⌜ v ≡ severalOf (rule.fitting (K.candidates (kindsOf (now (t .entry))) (at d g))) ⌝ }
+    ensures { λ v. ⌜ v ≡ severalOf (K.candidates (kindsOf (now (t .entry))) (at d g)) ⌝ }
 {
     let exponents = words_of(d);
     let w = exponents.words;
@@ -36,7 +36,7 @@ fn fitting(t: &[u32], d: Dimensions, g: u32) -> Several
 
 // Where kind k fits, one other ends the search.
 fn fitting_by(t: &[u32], d: Dimensions, g: u32, k: u16) -> Several
-    ensures { λ v. ⌜ v ≡ severalOf (rule.fitting (K.candidates (kindsOf (now (t .entry))) (at d g))) ⌝ }
+    ensures { λ v. ⌜ v ≡ severalOf (K.candidates (kindsOf (now (t .entry))) (at d g)) ⌝ }
 {
     match seen_from(t, d, g, k) {
         Beside::Alone => Several::Is(k),

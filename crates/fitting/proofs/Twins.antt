@@ -19,26 +19,27 @@ use Rattle.fitting.specs.declared.sought.Fit.{Fit}
 use Rattle.fitting.specs.declared.sought.Fit.the-variants.{Only, Second, Nothing}
 use Rattle.fitting.proofs.Few.{picked-none, picked-skip}
 
--- ---- as a resolution: v is what was found
-pub fitting-only : {v : Fit} {k : ℕ} (ks : List ℕ) → v ≡ Only k → v ≡ fitOf ks → rule.fitting ks ≡ rule.is k
-fitting-only [] p e = cc
-fitting-only (j ∷ []) p e = cc
-fitting-only (j ∷ m ∷ ks) p e = cc
+-- ---- which they are: v is what was found
+pub only-fits : {v : Fit} {k : ℕ} (ks : List ℕ) → v ≡ Only k → v ≡ fitOf ks → ks ≡ k ∷ []
+only-fits [] p e = cc
+only-fits (j ∷ []) p e = cc
+only-fits (j ∷ m ∷ ks) p e = cc
 
-pub fitting-nothing : {v : Fit} (ks : List ℕ) → v ≡ Nothing → v ≡ fitOf ks → rule.fitting ks ≡ rule.nothing
-fitting-nothing [] p e = refl
-fitting-nothing (j ∷ []) p e = cc
-fitting-nothing (j ∷ m ∷ ks) p e = cc
+pub nothing-fits : {v : Fit} (ks : List ℕ) → v ≡ Nothing → v ≡ fitOf ks → ks ≡ []
+nothing-fits [] p e = refl
+nothing-fits (j ∷ []) p e = cc
+nothing-fits (j ∷ m ∷ ks) p e = cc
 
-pub fitting-second : {v : Fit} {m : ℕ} (ks : List ℕ) → v ≡ Second m → v ≡ fitOf ks → rule.fitting ks ≡ rule.twins ks
-fitting-second [] p e = cc
-fitting-second (j ∷ []) p e = cc
-fitting-second (j ∷ k ∷ ks) p e = refl
+pub second-fits : {v : Fit} {m : ℕ} (ks : List ℕ) → v ≡ Second m → v ≡ fitOf ks → 2 ≤ length ks
+second-fits [] p e = let z : true ≡ false = cc in absurd (true≢false z)
+second-fits (j ∷ []) p e = let z : true ≡ false = cc in absurd (true≢false z)
+second-fits (j ∷ k ∷ ks) p e = omega arith
 
-pub fitting-long : (ks : List ℕ) → 2 ≤ length ks → rule.fitting ks ≡ rule.twins ks
-fitting-long [] h = absurd (omega arith)
-fitting-long (k ∷ []) h = absurd (omega arith)
-fitting-long (k ∷ m ∷ ks) h = refl
+-- ---- several are settled as several
+pub settle-several : {A : Type 0} (ks : List ℕ) (nothing : A) (one : ℕ → A) (several : List ℕ → A) → 2 ≤ length ks → rule.settle ks nothing one several ≡ several ks
+settle-several [] nothing one several h = absurd (omega arith)
+settle-several (k ∷ []) nothing one several h = absurd (omega arith)
+settle-several (k ∷ m ∷ ks) nothing one several h = refl
 
 -- ---- two, and those past the second
 module _ (test : ℕ → Bool) (m : ℕ) where

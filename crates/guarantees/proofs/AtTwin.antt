@@ -11,7 +11,7 @@ use Rattle.laws.specs.Out.{given, refused}
 use Rattle.dimension.specs.declared.grade.ProductOp.{ProductOp}
 use Rattle.rules.specs.Kinds.{Kinds, Rows, Graded}
 use Rattle.rules.specs.Refusal.{Refusal, Answer, UnresolvedTwin}
-use Rattle.rules.specs.Arithmetic.{derive, Resolved, is, twins, nothing, resolve, product}
+use Rattle.rules.specs.Arithmetic.{derive, resolve, product}
 use Rattle.rules.specs.Formula.{Token, Term, Kind, Step, on, stop, bad, stopped, malformed, step, walk, terms, malformedAt, formula}
 use Rattle.guarantees.specs.Reached.{reached}
 use Rattle.guarantees.specs.Larger.{Extends, lifts}
@@ -41,10 +41,10 @@ module _ (K : Kinds) (small large : Rows) (more : Extends small large) where
   unfolding product
   row-given l op r k ks e w = go (derive K l op r) refl (derive-calm every K l op r)
     where
-      at : (x : Graded) → derive K l op r ≡ given x → (u : Resolved) → resolve K l op r x ≡ u → product K large l op r ≡ given k
-      at x d (is m) p = let z : true ≡ false = cc in absurd (true≢false z)
-      at x d nothing p = let z : true ≡ false = cc in absurd (true≢false z)
-      at x d (twins js) p = cc
+      at : (x : Graded) → derive K l op r ≡ given x → (u : List ℕ) → resolve K l op r x ≡ u → product K large l op r ≡ given k
+      at x d (m ∷ []) p = let z : true ≡ false = cc in absurd (true≢false z)
+      at x d [] p = let z : true ≡ false = cc in absurd (true≢false z)
+      at x d (m ∷ j ∷ js) p = cc
 
       go : (m : Answer Graded) → derive K l op r ≡ m → Calm every m → product K large l op r ≡ given k
       go (given x) d c = at x d (resolve K l op r x) refl

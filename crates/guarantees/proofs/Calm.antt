@@ -2,7 +2,7 @@
 use Prim.Native.Nat.{ℕ}
 use mathlib.Core.Path.{_≡_, refl, sym, _∙_}
 use mathlib.Core.Bool.{Bool, true, false, cond, not, true≢false}
-use mathlib.Core.List.{List}
+use mathlib.Core.List.{List, [], _∷_}
 use mathlib.Core.Option.{Option, some, none}
 use lib.Dec.{ltb, eqb}
 use Rattle.laws.specs.Out.{given, refused, _>>=_, _>>_, mapped, refuseIf, needed}
@@ -15,7 +15,7 @@ use Rattle.dimension.specs.declared.grade.Grade.{Grade}
 use Rattle.dimension.specs.declared.grade.Grade.the-variants.{Single, Absent}
 use Rattle.rules.specs.Kinds.{Kinds, Rows, point}
 use Rattle.rules.specs.Refusal.{Refusal, Answer, UnresolvedDimensions, Point, PowerOverLimits, NoKind, KindMismatch, UnsupportedOperation, UngradedPower, absent}
-use Rattle.rules.specs.Arithmetic.{Sum, Add, Sub, summed, multiplied, indexed, operand, single, gradeBy, graded, derive, Resolved, is, twins, nothing, orFitting, settle, agree, sumBy, sum, scaled, neutralPower, raised, power}
+use Rattle.rules.specs.Arithmetic.{Sum, Add, Sub, summed, multiplied, indexed, operand, single, gradeBy, graded, derive, orFitting, settle, agree, sumBy, sum, scaled, neutralPower, raised, power}
 use Rattle.rules.specs.Formula.{Unary, exact, inexact, absolute, Binary, combined, compared, Term, Number, Kind, withNumber, oneKind, unaryTerm, kindTerm}
 use Rattle.guarantees.specs.Larger.{lifts}
 use Rattle.guarantees.proofs.Grows.{GrownOut}
@@ -61,10 +61,10 @@ module _ (rows : Rows) where
   calm-single (Single g) x h = tt
   calm-single Absent x h = h
 
-  calm-settle : (o : Resolved) (x : Refusal) (f : List ℕ → Answer ℕ) → lifts rows x ≡ false → ((ks : List ℕ) → Calm (f ks)) → Calm (settle o x f)
-  calm-settle (is k) x f h c = tt
-  calm-settle (twins ks) x f h c = c ks
-  calm-settle nothing x f h c = h
+  calm-settle : (o : List ℕ) (x : Refusal) (f : List ℕ → Answer ℕ) → lifts rows x ≡ false → ((ks : List ℕ) → Calm (f ks)) → Calm (settle o (refused x) given f)
+  calm-settle (k ∷ []) x f h c = tt
+  calm-settle (k ∷ m ∷ ks) x f h c = c (k ∷ m ∷ ks)
+  calm-settle [] x f h c = h
 
   -- ---- the rules that read no row
   module _ (K : Kinds) where

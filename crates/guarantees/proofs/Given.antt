@@ -1,9 +1,11 @@
 -- What is known once a rule of compilation has given something. Assumes nothing.
-use Prim.Native.Nat.{ℕ, _<_}
+use Prim.Native.Nat.{ℕ, _<_, _≤_}
 use mathlib.Core.Path.{_≡_, refl, sym}
 use mathlib.Core.Bool.{Bool, true, false, cond, not, _&&_, true≢false}
-use mathlib.Core.List.{List}
+use mathlib.Core.List.{List, [], _∷_}
 use mathlib.Core.Option.{Option, some, none}
+use native.Mathlib.Omega.{arith}
+use lib.ListN.{length}
 use borrow.Author.Tests.{eqb-true}
 use Rattle.laws.specs.Options.{isSome}
 use Rattle.laws.specs.Out.{Out, given, refused, _>>_, refuseIf}
@@ -12,7 +14,6 @@ use Rattle.dimension.specs.declared.dimensions.Dimensions.{Dimensions}
 use Rattle.dimension.proofs.DimensionLaws as L
 use Rattle.rules.specs.Kinds.{Graded}
 use Rattle.rules.specs.Refusal.{Answer, at}
-use Rattle.rules.specs.Arithmetic.{Resolved, is, twins, nothing}
 use Rattle.rules.specs.Catalog.{Id, blank, Catalog, meant}
 use Rattle.rules.specs.Compile.{Checked, ifDeclared, sameDims, several, eachRecord}
 
@@ -34,10 +35,10 @@ record-given C rule n e k h = at-given k (rule k) (each-given (λ k. at k (rule 
 pub declared-given : (id : Id) (rule : Checked) {u : Unit {0}} → blank id ≡ false → ifDeclared id rule ≡ given u → rule ≡ given u
 declared-given id rule p e = rw p at e
 
-pub several-given : (C : Catalog) (s : Resolved) (x : Graded) {u : Unit {0}} → several C s x ≡ given u → (ks : List ℕ) × (s ≡ twins ks)
-several-given C (is k) x e = let z : true ≡ false = cc in absurd (true≢false z)
-several-given C (twins ks) x e = (ks, refl)
-several-given C nothing x e = let z : true ≡ false = cc in absurd (true≢false z)
+pub several-given : (C : Catalog) (s : List ℕ) (x : Graded) {u : Unit {0}} → several C s x ≡ given u → 2 ≤ length s
+several-given C [] x e = let z : true ≡ false = cc in absurd (true≢false z)
+several-given C (k ∷ []) x e = let z : true ≡ false = cc in absurd (true≢false z)
+several-given C (k ∷ m ∷ ks) x e = omega arith
 
 -- a rule for some records alone
 pub cond-given : (t : Bool) (m : Checked) {u : Unit {0}} → t ≡ true → cond t m (given tt) ≡ given u → m ≡ given u

@@ -13,7 +13,7 @@ use Rattle.dimension.specs.Fraction as F
 use Rattle.dimension.specs.declared.grade.ProductOp.{ProductOp}
 use Rattle.rules.specs.Kinds.{Kinds, Rows, Graded}
 use Rattle.rules.specs.Refusal.{Refusal, Answer, UnresolvedTwin}
-use Rattle.rules.specs.Arithmetic.{summed, multiplied, agree, sum, derive, Resolved, is, twins, nothing, resolve, product, scaled, power, combine}
+use Rattle.rules.specs.Arithmetic.{summed, multiplied, agree, sum, derive, resolve, product, scaled, power, combine}
 use Rattle.rules.specs.Formula.{Token, Unary, Binary, inLimits, combined, compared, Term, Number, Kind, stop, bad, onto, withNone, withOne, step, terms, withNumber, twoKinds, unaryTerm, binaryTerm, kindTerm}
 use Rattle.guarantees.specs.AtToken.{timesToken}
 use Rattle.guarantees.proofs.Calm.{Calm, derive-calm, agree-calm, sum-calm, byNumber-calm, numberBy-calm, unary-calm, kind-calm}
@@ -38,11 +38,11 @@ module _ (K : Kinds) (rows : Rows) (l : ℕ) (op : ProductOp) (r : ℕ) (ks : Li
   unfolding product
   named a o b e = go (derive K a o b) refl (derive-calm every K a o b)
     where
-      at : (x : Graded) → derive K a o b ≡ given x → (u : Resolved) → resolve K a o b x ≡ u → (w : Option ℕ) → rows a o b ≡ w → (a ≡ l) × (o ≡ op) × (b ≡ r)
-      at x d (is k) p w q = let z : true ≡ false = cc in absurd (true≢false z)
-      at x d nothing p w q = let z : true ≡ false = cc in absurd (true≢false z)
-      at x d (twins js) p (some k) q = let z : true ≡ false = cc in absurd (true≢false z)
-      at x d (twins js) p none q = (cc, cc, cc)
+      at : (x : Graded) → derive K a o b ≡ given x → (u : List ℕ) → resolve K a o b x ≡ u → (w : Option ℕ) → rows a o b ≡ w → (a ≡ l) × (o ≡ op) × (b ≡ r)
+      at x d (k ∷ []) p w q = let z : true ≡ false = cc in absurd (true≢false z)
+      at x d [] p w q = let z : true ≡ false = cc in absurd (true≢false z)
+      at x d (m ∷ j ∷ js) p (some k) q = let z : true ≡ false = cc in absurd (true≢false z)
+      at x d (m ∷ j ∷ js) p none q = (cc, cc, cc)
 
       go : (m : Answer Graded) → derive K a o b ≡ m → Calm every m → (a ≡ l) × (o ≡ op) × (b ≡ r)
       go (given x) d c = at x d (resolve K a o b x) refl (rows a o b) refl

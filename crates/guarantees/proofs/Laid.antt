@@ -14,10 +14,12 @@ use Rattle.laws.proofs.Cases.{or-neither}
 use Rattle.laws.proofs.Checks.{then-given, refuse-given}
 use Rattle.laws.proofs.First.{first-misses}
 use Rattle.rules.specs.Layout.{kindCount, rowCount, blocksBy, headerWrong, kindWrong, blockWrong, byteWrong}
-use Rattle.rules.specs.Refusal.{Refusal, ImageLength, Short}
+use Rattle.rules.specs.Bytes.{le4}
+use Rattle.rules.specs.Refusal.{Refusal, at, ImageLength, WrongBlock, Schema, Short}
 use Rattle.rules.specs.Catalog.{catalogIn, kindAt}
 use Rattle.rules.specs.Compile.{Compiled, compile}
-use Rattle.rules.specs.Image.{lengthWrong, lengthCheck, roomCheck, refuseFirst, blocksCheck, schemaCheck, layoutCheck, readable, lentCheck, compileImage}
+use Rattle.rules.specs.Image.{lengthWrong, lengthCheck, refuseFirst, sumWrong, readable, lentCheck, compileImage}
+use Rattle.rules.specs.Table.{roomFor}
 use Rattle.guarantees.proofs.Given.{at-given, not-true}
 
 pub record LaidOut (s : List ℕ) : Type 0 where
@@ -41,12 +43,12 @@ first-given wrong n x e = go (first wrong n) refl
     go (some i) p = let z : true ≡ false = cc in absurd (true≢false z)
 
 pub lent-tells : (s : List ℕ) (room : ℕ) {u : Unit {0}} → lentCheck s room ≡ given u → LaidOut s
-unfolding lentCheck lengthCheck readable layoutCheck
+unfolding lentCheck lengthCheck readable
 lent-tells s room e =
     let a = then-given (lengthCheck s) _ e in
-    let b = then-given (roomCheck room) _ (a .2) in
-    let f = then-given (blocksCheck s) _ (b .2) in
-    let g = then-given (schemaCheck s) _ (f .2) in
+    let b = then-given (at 0 (roomFor 9296 room)) _ (a .2) in
+    let f = then-given (refuseFirst (sumWrong s) (length s / 512) WrongBlock) _ (b .2) in
+    let g = then-given (at 0 (refuseIf (not (eqb (le4 s 4) 4)) (Schema (le4 s 4)))) _ (f .2) in
     record {
       blocks = long s (refuse-given (lengthWrong s) _ (at-given 0 (refuseIf (lengthWrong s) (ImageLength (length s))) (a .1)));
       bytes = λ i h. first-misses (byteWrong s) (length s) i (first-given (byteWrong s) (length s) _ (g .2)) h;
@@ -54,10 +56,10 @@ lent-tells s room e =
 
 -- and 5 does not refuse the table lent for it
 pub lent-room : (s : List ℕ) (room : ℕ) {u : Unit {0}} → lentCheck s room ≡ given u → 9296 ≤ room
-unfolding lentCheck roomCheck
+unfolding lentCheck
 lent-room s room e =
     let a = then-given (lengthCheck s) _ e in
-    let b = then-given (roomCheck room) _ (a .2) in
+    let b = then-given (at 0 (roomFor 9296 room)) _ (a .2) in
     ltb-false room 9296 (refuse-given (ltb room 9296) _ (at-given 0 (refuseIf (ltb room 9296) (Short room)) (b .1)))
 
 pub image-tells : (s : List ℕ) (room : ℕ) (c : Compiled) → compileImage s room ≡ given c → LaidOut s × (compile (catalogIn s) ≡ given c)

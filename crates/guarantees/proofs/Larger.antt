@@ -3,7 +3,7 @@
 use Prim.Native.Nat.{ℕ}
 use mathlib.Core.Path.{_≡_, refl, sym, _∙_}
 use mathlib.Core.Bool.{false, true≢false}
-use mathlib.Core.List.{List, []}
+use mathlib.Core.List.{List, [], _∷_}
 use mathlib.Core.Option.{Option, some, none}
 use lib.IntN.{pos, negℤ}
 use Rattle.laws.specs.Options.{found}
@@ -12,7 +12,7 @@ use Rattle.dimension.specs.Fraction as F
 use Rattle.dimension.specs.declared.grade.ProductOp.{ProductOp}
 use Rattle.rules.specs.Kinds.{Kinds, Rows, Graded}
 use Rattle.rules.specs.Refusal.{Refusal, Answer, UnresolvedTwin, NoProductKind}
-use Rattle.rules.specs.Arithmetic.{Op, summed, multiplied, derive, Resolved, is, twins, nothing, resolve, settle, product, agree, sum, scaled, power, combine}
+use Rattle.rules.specs.Arithmetic.{Op, summed, multiplied, derive, resolve, settle, product, agree, sum, scaled, power, combine}
 use Rattle.rules.specs.Formula.{Token, Binary, combined, compared, Term, Number, Kind, withNumber, twoKinds, unaryTerm, binaryTerm, kindTerm, terms, malformed, walk, malformedAt, formula}
 use Rattle.guarantees.specs.Larger.{Extends, lifts}
 use Rattle.guarantees.proofs.Grows.{GrownOut, Grown, Grows, walk-grown}
@@ -30,11 +30,11 @@ module _ (K : Kinds) (small large : Rows) (more : Extends small large) where
       go none p (some m) q = rw q (λ e. absurd (true≢false e), λ e. (m, refl))
       go none p none q = rw q (λ e. refl, λ e. absurd (true≢false (sym e)))
 
-  settle-grown : (o : Resolved) (x : Refusal) (f g : List ℕ → Answer ℕ) → lifts large x ≡ false → ((ks : List ℕ) → GrownOut (lifts large) (f ks) (g ks))
-      → GrownOut (lifts large) (settle o x f) (settle o x g)
-  settle-grown (is k) x f g c h = refl
-  settle-grown (twins ks) x f g c h = h ks
-  settle-grown nothing x f g c h = (λ e. refl, λ e. absurd (true≢false (sym e ∙ c)))
+  settle-grown : (o : List ℕ) (x : Refusal) (f g : List ℕ → Answer ℕ) → lifts large x ≡ false → ((ks : List ℕ) → GrownOut (lifts large) (f ks) (g ks))
+      → GrownOut (lifts large) (settle o (refused x) given f) (settle o (refused x) given g)
+  settle-grown (k ∷ []) x f g c h = refl
+  settle-grown (k ∷ m ∷ ks) x f g c h = h (k ∷ m ∷ ks)
+  settle-grown [] x f g c h = (λ e. refl, λ e. absurd (true≢false (sym e ∙ c)))
 
   bind-grown : (m : Answer Graded) (f g : Graded → Answer ℕ) → Calm large m → ((x : Graded) → GrownOut (lifts large) (f x) (g x)) → GrownOut (lifts large) (m >>= f) (m >>= g)
   bind-grown (given x) f g c h = h x

@@ -7,13 +7,14 @@ use mathlib.Core.Option.{Option, some, none}
 use native.Mathlib.Omega.{arith}
 use lib.Dec.{eqb}
 use lib.ListN.{length, getD}
+use Rattle.laws.specs.Options.{orElse}
 use Rattle.laws.specs.Out.{given, refused, known}
 use Rattle.laws.proofs.Checks.{bind-given}
 use Rattle.dimension.specs.declared.grade.ProductOp.{ProductOp}
 use Rattle.dimension.specs.declared.grade.ProductOp.the-variants.{Mul, Div, Dot, Wedge}
 use Rattle.rules.specs.Kinds.{Kinds, Rows, Graded, duration, carries, fits, candidates}
 use Rattle.rules.specs.Refusal.{Answer, UnresolvedTwin, NoProductKind, InvalidOperationRule}
-use Rattle.rules.specs.Arithmetic.{derive, neutralBy, neutral, ratedBy, rated, Resolved, is, twins, nothing, resolve, settle, product}
+use Rattle.rules.specs.Arithmetic.{derive, neutralBy, neutral, ratedBy, rated, orFitting, resolve, settle, product}
 use Rattle.rules.specs.Catalog.{Catalog}
 use Rattle.rules.specs.Compile.{several}
 use Rattle.guarantees.proofs.Picks.{Ascending, distinct, picked-ascending, head-passes, none-passes}
@@ -78,7 +79,7 @@ module _ (K : Kinds) (rows : Rows) (w : Within K rows) (l r k : ℕ) (hl : l < K
       go none p = never (rw p at e)
       go (some d) p = rated-below op d (rw p at e)
 
-  resolve-in : (op : ProductOp) (x : Graded) → resolve K l op r x ≡ is k → k < K .count
+  resolve-in : (op : ProductOp) (x : Graded) → resolve K l op r x ≡ k ∷ [] → k < K .count
   unfolding resolve
   resolve-in op x e = go (neutral K l op r) refl (rated K l op r) refl (candidates K x) refl
     where
@@ -95,37 +96,37 @@ module _ (K : Kinds) (rows : Rows) (w : Within K rows) (l r k : ℕ) (hl : l < K
       let b = bind-given (derive K l op r) _ e in
       go (b .0) (resolve K l op r (b .0)) refl (rows l op r) refl (b .2)
     where
-      go : (x : Graded) (o : Resolved) → resolve K l op r x ≡ o → (v : Option ℕ) → rows l op r ≡ v
-          → settle (resolve K l op r x) (NoProductKind x) (λ ks. known (rows l op r) (refused (UnresolvedTwin l op r ks))) ≡ given k → k < K .count
-      go x (is m) p v q e = let y : m ≡ k = cc in resolve-in op x (p ∙ ap is y)
-      go x (twins ks) p (some j) q e = let y : j ≡ k = cc in w .row l op r k (q ∙ ap some y)
-      go x (twins ks) p none q e = let y : true ≡ false = cc in absurd (true≢false y)
-      go x nothing p v q e = let y : true ≡ false = cc in absurd (true≢false y)
+      go : (x : Graded) (o : List ℕ) → resolve K l op r x ≡ o → (v : Option ℕ) → rows l op r ≡ v
+          → settle (resolve K l op r x) (refused (NoProductKind x)) given (λ ks. known (rows l op r) (refused (UnresolvedTwin l op r ks))) ≡ given k → k < K .count
+      go x (m ∷ []) p v q e = let y : m ≡ k = cc in resolve-in op x (p ∙ ap (λ (j : ℕ). j ∷ []) y)
+      go x (m ∷ n ∷ ks) p (some j) q e = let y : j ≡ k = cc in w .row l op r k (q ∙ ap some y)
+      go x (m ∷ n ∷ ks) p none q e = let y : true ≡ false = cc in absurd (true≢false y)
+      go x [] p v q e = let y : true ≡ false = cc in absurd (true≢false y)
 
 -- ---- the twins are the kinds that fit, two at least
 module _ (K : Kinds) (l : ℕ) (op : ProductOp) (r : ℕ) where
-  pub resolve-twins : (x : Graded) (ks : List ℕ) → resolve K l op r x ≡ twins ks → (ks ≡ candidates K x) × (2 ≤ length ks)
+  pub resolve-twins : (x : Graded) → 2 ≤ length (resolve K l op r x) → resolve K l op r x ≡ candidates K x
   unfolding resolve
-  resolve-twins x ks e = go (neutral K l op r) refl (rated K l op r) refl (candidates K x) refl
+  resolve-twins x e = go (orElse (neutral K l op r) (rated K l op r)) e
     where
-      go : (n : Option ℕ) → neutral K l op r ≡ n → (t : Option ℕ) → rated K l op r ≡ t → (js : List ℕ) → candidates K x ≡ js → (ks ≡ candidates K x) × (2 ≤ length ks)
-      go (some m) p t q js u = let y : true ≡ false = cc in absurd (true≢false y)
-      go none p (some m) q js u = let y : true ≡ false = cc in absurd (true≢false y)
-      go none p none q [] u = let y : true ≡ false = cc in absurd (true≢false y)
-      go none p none q (m ∷ []) u = let y : true ≡ false = cc in absurd (true≢false y)
-      go none p none q (m ∷ n ∷ js) u = let y : ks ≡ m ∷ n ∷ js = cc in (y ∙ sym u, rw y (omega arith))
+      go : (o : Option ℕ) → 2 ≤ length (orFitting K o x) → orFitting K o x ≡ candidates K x
+      go (some m) h = absurd (omega arith)
+      go none h = refl
 
   pub product-twins : (rows : Rows) (a : ℕ) (o : ProductOp) (b : ℕ) (ks : List ℕ) → product K rows l op r ≡ refused (UnresolvedTwin a o b ks)
       → (x : Graded) × (derive K l op r ≡ given x) × (ks ≡ candidates K x) × (2 ≤ length ks)
   unfolding product
   product-twins rows a o b ks e = go (derive K l op r) refl (derive-calm every K l op r)
     where
-      at : (x : Graded) → derive K l op r ≡ given x → (u : Resolved) → resolve K l op r x ≡ u → (v : Option ℕ) → rows l op r ≡ v
+      at : (x : Graded) → derive K l op r ≡ given x → (u : List ℕ) → resolve K l op r x ≡ u → (v : Option ℕ) → rows l op r ≡ v
           → (x : Graded) × (derive K l op r ≡ given x) × (ks ≡ candidates K x) × (2 ≤ length ks)
-      at x d (is k) p v q = let z : true ≡ false = cc in absurd (true≢false z)
-      at x d nothing p v q = let z : true ≡ false = cc in absurd (true≢false z)
-      at x d (twins js) p (some k) q = let z : true ≡ false = cc in absurd (true≢false z)
-      at x d (twins js) p none q = let z : js ≡ ks = cc in let t = resolve-twins x ks (p ∙ ap twins z) in (x, d, t .0, t .1)
+      at x d (k ∷ []) p v q = let z : true ≡ false = cc in absurd (true≢false z)
+      at x d [] p v q = let z : true ≡ false = cc in absurd (true≢false z)
+      at x d (m ∷ j ∷ js) p (some k) q = let z : true ≡ false = cc in absurd (true≢false z)
+      at x d (m ∷ j ∷ js) p none q =
+          let z : resolve K l op r x ≡ ks = cc in
+          let h : 2 ≤ length ks = rw (sym z ∙ p) (omega arith) in
+          (x, d, sym z ∙ resolve-twins x (rw z h), h)
 
       go : (m : Answer Graded) → derive K l op r ≡ m → Calm every m → (x : Graded) × (derive K l op r ≡ given x) × (ks ≡ candidates K x) × (2 ≤ length ks)
       go (given x) d c = at x d (resolve K l op r x) refl (rows l op r) refl
@@ -141,7 +142,7 @@ module _ (K : Kinds) (l : ℕ) (op : ProductOp) (r : ℕ) where
 
 -- ---- "25 never comes from a lack of kinds: a result that fits is itself found"
 module _ (K : Kinds) (l : ℕ) (op : ProductOp) (r : ℕ) (x : Graded) (k : ℕ) (b : k < K .count) (n : K .difference k ≡ none) (c : carries K x k ≡ true) where
-  pub result-found : resolve K l op r x ≡ nothing → ⊥
+  pub result-found : resolve K l op r x ≡ [] → ⊥
   unfolding resolve
   result-found e = go (neutral K l op r) refl (rated K l op r) refl (candidates K x) refl
     where
@@ -155,7 +156,7 @@ module _ (K : Kinds) (l : ℕ) (op : ProductOp) (r : ℕ) (x : Graded) (k : ℕ)
   pub never-25 : (C : Catalog) (y : Graded) → several C (resolve K l op r x) x ≡ refused (InvalidOperationRule y) → ⊥
   never-25 C y e = go (resolve K l op r x) refl
     where
-      go : (o : Resolved) → resolve K l op r x ≡ o → ⊥
-      go (is m) p = let z : true ≡ false = cc in true≢false z
-      go (twins ks) p = let z : true ≡ false = cc in true≢false z
-      go nothing p = result-found p
+      go : (o : List ℕ) → resolve K l op r x ≡ o → ⊥
+      go (m ∷ []) p = let z : true ≡ false = cc in true≢false z
+      go (m ∷ j ∷ ks) p = let z : true ≡ false = cc in true≢false z
+      go [] p = result-found p

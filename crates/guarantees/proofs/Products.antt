@@ -11,7 +11,7 @@ use Rattle.dimension.specs.declared.dimensions.Dimensions.{Dimensions}
 use Rattle.dimension.specs.declared.grade.ProductOp.{ProductOp}
 use Rattle.rules.specs.Kinds.{Kinds, Rows, Graded, carries, fits, candidates}
 use Rattle.rules.specs.Refusal.{Answer, UnresolvedTwin, NoProductKind}
-use Rattle.rules.specs.Arithmetic.{derive, neutral, rated, Resolved, is, twins, nothing, resolve, settle, product}
+use Rattle.rules.specs.Arithmetic.{derive, neutral, rated, resolve, settle, product}
 use Rattle.guarantees.specs.Premises.{Guaranteed, Scalars}
 use Rattle.guarantees.specs.Demand3.{NoneCarries, HasProduct, Exactly45}
 use Rattle.guarantees.proofs.Picks.{head-passes, none-passes, passes-none}
@@ -28,7 +28,7 @@ module _ (K : Kinds) (rows : Rows) (c : Guaranteed K rows) (s : Scalars K) (l : 
       record { carries = f .0; no-point = f .1; below = λ a b. h .1 }
 
   -- what is resolved to is found
-  resolve-is : (k : ℕ) → resolve K l op r x ≡ is k → Found K l r x k
+  resolve-is : (k : ℕ) → resolve K l op r x ≡ k ∷ [] → Found K l r x k
   unfolding resolve
   resolve-is k e = go (neutral K l op r) refl (rated K l op r) refl (candidates K x) refl
     where
@@ -41,27 +41,27 @@ module _ (K : Kinds) (rows : Rows) (c : Guaranteed K rows) (s : Scalars K) (l : 
 
   -- what follows the derivation
   abbrev rest : Answer ℕ
-  rest = settle (resolve K l op r x) (NoProductKind x) (λ ks. known (rows l op r) (refused (UnresolvedTwin l op r ks)))
+  rest = settle (resolve K l op r x) (refused (NoProductKind x)) given (λ ks. known (rows l op r) (refused (UnresolvedTwin l op r ks)))
 
   rest-found : (k : ℕ) → derive K l op r ≡ given x → rest ≡ given k → Found K l r x k
   rest-found k v e = go (resolve K l op r x) refl (rows l op r) refl
     where
-      go : (o : Resolved) → resolve K l op r x ≡ o → (w : Option ℕ) → rows l op r ≡ w → Found K l r x k
-      go (is m) p w q = let y : m ≡ k = cc in resolve-is k (p ∙ ap is y)
-      go (twins ks) p (some j) q =
+      go : (o : List ℕ) → resolve K l op r x ≡ o → (w : Option ℕ) → rows l op r ≡ w → Found K l r x k
+      go (m ∷ []) p w q = let y : m ≡ k = cc in resolve-is k (p ∙ ap (λ (j : ℕ). j ∷ []) y)
+      go (m ∷ n ∷ ks) p (some j) q =
           let y : j ≡ k = cc in
           let i = c .row l op r k (q ∙ ap some y) in
           let z : i .of ≡ x = cc (i .derived) in
           record { carries = rw z at (carries-tells K (i .of) k (i .carried)); no-point = i .no-point; below = λ a b. i .below }
-      go (twins ks) p none q = let y : true ≡ false = cc in absurd (true≢false y)
-      go nothing p w q = let y : true ≡ false = cc in absurd (true≢false y)
+      go (m ∷ n ∷ ks) p none q = let y : true ≡ false = cc in absurd (true≢false y)
+      go [] p w q = let y : true ≡ false = cc in absurd (true≢false y)
 
   -- nothing is resolved exactly where none carries x
-  resolve-nothing : l < K .count → r < K .count → (resolve K l op r x ≡ nothing) ↔ NoneCarries K x
+  resolve-nothing : l < K .count → r < K .count → (resolve K l op r x ≡ []) ↔ NoneCarries K x
   unfolding resolve
   resolve-nothing hl hr = (λ e k b n y. there e k b n y (neutral K l op r) refl (rated K l op r) refl (candidates K x) refl, λ h. back h (neutral K l op r) refl (rated K l op r) refl)
     where
-      there : resolve K l op r x ≡ nothing → (k : ℕ) → k < K .count → K .difference k ≡ none → carries K x k ≡ true
+      there : resolve K l op r x ≡ [] → (k : ℕ) → k < K .count → K .difference k ≡ none → carries K x k ≡ true
           → (n : Option ℕ) → neutral K l op r ≡ n → (t : Option ℕ) → rated K l op r ≡ t → (ks : List ℕ) → candidates K x ≡ ks → ⊥
       there e k b n y (some m) p t q ks u = let z : true ≡ false = cc in true≢false z
       there e k b n y none p (some m) q ks u = let z : true ≡ false = cc in true≢false z
@@ -76,20 +76,20 @@ module _ (K : Kinds) (rows : Rows) (c : Guaranteed K rows) (s : Scalars K) (l : 
       none-found : NoneCarries K x → (k : ℕ) → Found K l r x k → ⊥
       none-found h k f = h k (f .below hl hr) (f .no-point) (tells-carries K x k (f .carries))
 
-      back : NoneCarries K x → (n : Option ℕ) → neutral K l op r ≡ n → (t : Option ℕ) → rated K l op r ≡ t → resolve K l op r x ≡ nothing
+      back : NoneCarries K x → (n : Option ℕ) → neutral K l op r ≡ n → (t : Option ℕ) → rated K l op r ≡ t → resolve K l op r x ≡ []
       back h (some m) p t q = absurd (none-found h m (neutral-is K rows c s l r x op m d p))
       back h none p (some m) q = absurd (none-found h m (rated-is K rows c s l r x op m d q))
       back h none p none q = rw (resolve, p, q, passes-none (fits K x) (K .count) (λ k b. misses h k b (fits K x k) refl))
 
   -- and 45 is said exactly then
-  rest-45 : (y : Graded) → rest ≡ refused (NoProductKind y) → (y ≡ x) × (resolve K l op r x ≡ nothing)
+  rest-45 : (y : Graded) → rest ≡ refused (NoProductKind y) → (y ≡ x) × (resolve K l op r x ≡ [])
   rest-45 y e = go (resolve K l op r x) refl (rows l op r) refl e
     where
-      go : (o : Resolved) → resolve K l op r x ≡ o → (w : Option ℕ) → rows l op r ≡ w → rest ≡ refused (NoProductKind y) → (y ≡ x) × (resolve K l op r x ≡ nothing)
-      go (is m) p w q e = let z : true ≡ false = cc in absurd (true≢false z)
-      go (twins ks) p (some j) q e = let z : true ≡ false = cc in absurd (true≢false z)
-      go (twins ks) p none q e = let z : true ≡ false = cc in absurd (true≢false z)
-      go nothing p w q e = (cc, p)
+      go : (o : List ℕ) → resolve K l op r x ≡ o → (w : Option ℕ) → rows l op r ≡ w → rest ≡ refused (NoProductKind y) → (y ≡ x) × (resolve K l op r x ≡ [])
+      go (m ∷ []) p w q e = let z : true ≡ false = cc in absurd (true≢false z)
+      go (m ∷ n ∷ ks) p (some j) q e = let z : true ≡ false = cc in absurd (true≢false z)
+      go (m ∷ n ∷ ks) p none q e = let z : true ≡ false = cc in absurd (true≢false z)
+      go [] p w q e = (cc, p)
 
   rest-exactly : l < K .count → r < K .count → (NoneCarries K x → rest ≡ refused (NoProductKind x)) × ((y : Graded) → rest ≡ refused (NoProductKind y) → (y ≡ x) × NoneCarries K x)
   rest-exactly hl hr =

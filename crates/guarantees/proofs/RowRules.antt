@@ -117,8 +117,7 @@ module _ (C : Catalog) (i : ℕ) where
           of = v .0;
           derived = v .1;
           carried = not-true _ (m .0);
-          among = t .0;
-          several = t .1;
+          several = t;
         };
         only = fresh-given (l .0) (r .0) (f .1);
         only-turned = λ c. fresh-given (r .0) (l .0) (cond-given (x .commutative) _ c (f .2));

@@ -20,7 +20,7 @@ use Rattle.dimension.specs.declared.grade.ProductOp.{ProductOp}
 use Rattle.dimension.specs.declared.grade.ProductOp.the-variants.{Mul, Div, Dot, Wedge}
 use Rattle.rules.specs.Kinds.{Rows, Graded, duration, carries, fits}
 use Rattle.rules.specs.Refusal.{UnresolvedTwin}
-use Rattle.rules.specs.Arithmetic.{operand, graded, gradeBy, joined, derive, neutralBy, neutral, ratedBy, rated, resolve, twins, product, combine, indexed}
+use Rattle.rules.specs.Arithmetic.{operand, graded, gradeBy, joined, derive, neutralBy, neutral, ratedBy, rated, resolve, product, combine, indexed}
 use Rattle.rules.specs.Formula.{Token, kind, Kind, answered, stopped, walk, shape, malformedAt, twoKinds, binaryTerm, kindTerm, terms, formula}
 use Rattle.teaching.specs.Listed.{bases, listed, teaching, noRows}
 use Rattle.teaching.specs.Image.{image}
@@ -87,9 +87,9 @@ abbrev volume : Graded
 volume = record { dims = bases (pos 3) (pos 0); grade = 0 }
 
 -- among volume and intake, it names volume
-by-volume : (l r : ℕ) → derive teaching l Mul r ≡ given volume → resolve teaching l Mul r volume ≡ twins (1 ∷ 5 ∷ []) → IsRow teaching l Mul r 1
+by-volume : (l r : ℕ) → derive teaching l Mul r ≡ given volume → resolve teaching l Mul r volume ≡ 1 ∷ 5 ∷ [] → IsRow teaching l Mul r 1
 unfolding teaching listed carries D.equal F.equal
-by-volume l r p q = record { below = lit< tt; no-point = refl; of = volume; derived = p; carried = refl; among = 1 ∷ 5 ∷ []; several = q }
+by-volume l r p q = record { below = lit< tt; no-point = refl; of = volume; derived = p; carried = refl; several = rw q (omega arith) }
 
 row-fits : IsRow teaching 6 Mul 7 1 × IsRow teaching 7 Mul 6 1
 unfolding teaching listed derive operand graded gradeBy joined neutral neutralBy rated ratedBy resolve fits carries picked D.product D.outcome D.equal G.product F.sum F.answer F.limited F.within F.lowest F.equal gcd euclid zipWith

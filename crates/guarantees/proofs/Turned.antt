@@ -65,6 +65,5 @@ module _ (K : Kinds) (l : ℕ) (op : ProductOp) (r : ℕ) (n : op ≡ Div → �
     of = h .of;
     derived = derive-turned K sound l op r (h .of) n (h .derived);
     carried = h .carried;
-    among = h .among;
-    several = resolve-turned (h .of) ∙ h .several;
+    several = rw (resolve-turned (h .of)) (h .several);
   }

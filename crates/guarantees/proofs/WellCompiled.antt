@@ -53,9 +53,8 @@ one i j p q = go (decLe (suc i) j) (decLe (suc j) i)
 fitting-row : (K : Kinds) (l : ℕ) (op : ProductOp) (r k : ℕ) → IsRow K l op r k → FittingRow K l op r k
 fitting-row K l op r k h =
     let c = carries-tells K (h .of) k (h .carried) in
-    let t = resolve-twins K l op r (h .of) (h .among) (h .several) in
     let p = picked-has (fits K (h .of)) (K .count) k (h .below) (tells-fits K (h .of) k c (h .no-point)) in
-    record { of = h .of; derived = h .derived; dims = c .dims; grade = c .grade; several = rw (t .0) at (t .1); place = p .0; among = p .1; named = p .2 }
+    record { of = h .of; derived = h .derived; dims = c .dims; grade = c .grade; several = rw (resolve-twins K l op r (h .of) (h .several)) at (h .several); place = p .0; among = p .1; named = p .2 }
 
 module _ (C : Catalog) (passed : Passed C) (fit : Fits C) where
   abbrev K : Kinds

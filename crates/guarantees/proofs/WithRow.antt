@@ -1,10 +1,10 @@
 -- The teaching catalog's image with a row added compiles, and both images meet every premise: so demand 3 holds of every pair of calls over these
 -- bytes, and the 44 of area × bore is lifted there. Assumes nothing.
-use Prim.Native.Nat.{ℕ, zero, suc, _<_, _≤_}
+use Prim.Native.Nat.{ℕ, zero, suc, _/_, _<_, _≤_}
 use mathlib.Core.Path.{_≡_, refl, _∙_, ap}
 use mathlib.Core.Bool.{true}
 use mathlib.Core.List.{List, [], _∷_, _++_, zipWith}
-use mathlib.Core.Option.{some}
+use mathlib.Core.Option.{some, none}
 use native.Mathlib.Nat.{not-suc-le-zero}
 use native.Mathlib.Omega.{arith}
 use lib.ListN.{length, replicate}
@@ -20,10 +20,10 @@ use Rattle.rules.specs.Kinds.{opOf, carries, fits}
 use Rattle.rules.specs.Refusal.{UnresolvedTwin}
 use Rattle.rules.specs.Arithmetic.{operand, graded, gradeBy, joined, derive, neutralBy, neutral, ratedBy, rated, resolve, product, combine, indexed}
 use Rattle.rules.specs.Bytes.{le2, le4, blockSum}
-use Rattle.rules.specs.Layout.{filled, idWrong, headerWrong, idsWrong, exponentWrong, kindWrong, rowWrong, blockHeadWrong, spareWrong, blockWrong, byteWrong}
+use Rattle.rules.specs.Layout.{filled, idWrong, headerWrong, idsWrong, exponentWrong, kindWrong, rowWrong, blockHeadWrong, blockWrong, byteWrong}
 use Rattle.rules.specs.Catalog.{blank, same, idAt, exponentAt, dimsAt, kindFrom, rowFrom, catalogIn, find, link, rateAmong, isDifference, role, kindsOf, names, covers, rowAmong, rowsOf}
 use Rattle.rules.specs.Compile.{Compiled, called, idRule, differenceRule, dimensionlessRule, timeRule, rateRule, fresh, rowRule, compiles, compile}
-use Rattle.rules.specs.Image.{lengthWrong, lengthCheck, roomCheck, sumWrong, blocksCheck, schemaCheck, layoutCheck, readable, lentCheck, compileImage}
+use Rattle.rules.specs.Image.{lengthWrong, lengthCheck, sumWrong, readable, lentCheck, compileImage}
 use Rattle.rules.specs.Formula.{walk, shape, malformedAt, twoKinds, binaryTerm, kindTerm, terms, formula}
 use Rattle.rules.specs.Token as token
 use Rattle.rules.specs.Token.{tokenBy, unusedZero, tokenAt, tokensIn, goodLength}
@@ -44,16 +44,16 @@ unfolding largerImage
 larger-bytes = small-bytes largerImage refl
 
 -- ---- it compiles
-blocks-right : blocksCheck largerImage ≡ given tt
-unfolding blocksCheck sumWrong blockSum sum le2 le4 first largerImage
+blocks-right : first (sumWrong largerImage) (length largerImage / 512) ≡ none
+unfolding sumWrong blockSum sum le2 le4 first largerImage
 blocks-right = refl
 
-layout-right : layoutCheck largerImage ≡ given tt
-unfolding layoutCheck byteWrong blockWrong headerWrong kindWrong rowWrong idsWrong idWrong exponentWrong blockHeadWrong spareWrong filled le2 first largerImage
+layout-right : first (byteWrong largerImage) (length largerImage) ≡ none
+unfolding byteWrong blockWrong headerWrong kindWrong rowWrong idsWrong idWrong exponentWrong blockHeadWrong filled le2 first largerImage
 layout-right = refl
 
 image-readable : readable largerImage ≡ given tt
-unfolding readable schemaCheck le2 le4 largerImage
+unfolding readable le2 le4 largerImage
 image-readable = rw (blocks-right, layout-right)
 
 rules-kept : compiles (catalogIn largerImage) ≡ given tt
@@ -64,7 +64,7 @@ abbrev pub larger : Compiled
 larger = compiledOf (catalogIn largerImage)
 
 pub larger-compiles : compileImage largerImage 9296 ≡ given larger
-unfolding compileImage lentCheck compile lengthCheck lengthWrong roomCheck largerImage
+unfolding compileImage lentCheck compile lengthCheck lengthWrong largerImage
 larger-compiles = rw (image-readable, rules-kept)
 
 -- ---- the premises

@@ -3,14 +3,14 @@
 use Prim.Native.Nat.{ℕ, _<_, _≤_}
 use mathlib.Core.Path.{_≡_}
 use mathlib.Core.Bool.{true}
-use mathlib.Core.List.{List}
 use mathlib.Core.Option.{some, none}
+use lib.ListN.{length}
 use Rattle.laws.specs.Out.{given}
 use Rattle.dimension.specs.Dimension as D
 use Rattle.dimension.specs.declared.dimensions.Dimensions.{Dimensions}
 use Rattle.dimension.specs.declared.grade.ProductOp.{ProductOp}
 use Rattle.rules.specs.Kinds.{Kinds, Rows, Graded, duration, carries}
-use Rattle.rules.specs.Arithmetic.{derive, resolve, twins}
+use Rattle.rules.specs.Arithmetic.{derive, resolve}
 use Rattle.guarantees.specs.Larger.{Extends}
 
 -- 13: "difference of other dimensions"; both may be unresolved
@@ -39,8 +39,7 @@ pub record IsRow (K : Kinds) (l : ℕ) (op : ProductOp) (r k : ℕ) : Type 0 whe
   pub of : Graded
   pub derived : derive K l op r ≡ given of
   pub carried : carries K of k ≡ true
-  pub among : List ℕ
-  pub several : resolve K l op r of ≡ twins among
+  pub several : 2 ≤ length (resolve K l op r of)
 
 -- what a compilation guarantees of its kinds and rows
 pub record Guaranteed (K : Kinds) (rows : Rows) : Type 0 where

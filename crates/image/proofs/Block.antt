@@ -12,7 +12,7 @@ use Rattle.laws.specs.Options.{orElse}
 use Rattle.laws.specs.Ranges.{firstFrom}
 use Rattle.laws.proofs.FirstFrom.{from-same, from-split}
 use Rattle.rules.specs.Bytes.{byte}
-use Rattle.rules.specs.Layout.{filled, blockHeadWrong, spareWrong, blockWrong}
+use Rattle.rules.specs.Layout.{filled, blockHeadWrong, blockWrong}
 use Rattle.image.specs.Shown.{headAt, recordsAt}
 use Rattle.image.proofs.Header.{part, or-none}
 use Rattle.image.proofs.Exponents.{nowhere}
@@ -100,7 +100,7 @@ module _ (wrong : List ℕ → ℕ → ℕ → Bool) (type bytes m n from b : �
 
   -- past them: x is a byte of the block past its records
   in-spare : (x : ℕ) → 4 + bytes * h ≤ x → x < 508 → T (P + x) ≡ filled s (P + x)
-  unfolding blockWrong spareWrong
+  unfolding blockWrong
   in-spare x l o = go (decLe (4 + m * bytes) x)
     where
       go : Dec (4 + m * bytes ≤ x) → T (P + x) ≡ filled s (P + x)
@@ -113,7 +113,7 @@ module _ (wrong : List ℕ → ℕ → ℕ → Bool) (type bytes m n from b : �
 
   -- the sum's bytes are not looked at here
   in-sum : (x : ℕ) → x < 4 → T (P + 508 + x) ≡ false
-  unfolding blockWrong spareWrong
+  unfolding blockWrong
   in-sum x l =
       let r = z .room in
       let e : P + 508 + x ≡ P + (508 + x) = omega arith in

@@ -15,7 +15,7 @@ use Rattle.dimension.specs.Dimension as D
 use Rattle.rules.specs.Bytes.{le4}
 use Rattle.rules.specs.Layout.{byteWrong}
 use Rattle.rules.specs.Refusal.{told}
-use Rattle.rules.specs.Image.{lengthWrong, lengthCheck, roomCheck, sumWrong, blocksCheck, schemaCheck, layoutCheck, readable, imageCheck, lentCheck}
+use Rattle.rules.specs.Image.{lengthWrong, lengthCheck, sumWrong, readable, imageCheck, lentCheck}
 use Rattle.error.specs.Shown.{answer, fine}
 use Rattle.error.specs.declared.answer.Answer.{Answer}
 use Rattle.error.specs.declared.answer.Verdict.the-variants.{Fine, Refused}
@@ -45,11 +45,11 @@ module _ (s : List ℕ) where
     image-readable = rw l
 
     pub room-refused : (room : ℕ) → room < 9296 → no (Short room) 0 ≡ fine (lentCheck s room)
-    unfolding lentCheck lengthCheck roomCheck fine told
+    unfolding lentCheck lengthCheck fine told
     room-refused room h = rw (l, lt-ltb room 9296 h)
 
     pub lent-readable : (room : ℕ) → 9296 ≤ room → fine (readable s) ≡ fine (lentCheck s room)
-    unfolding lentCheck lengthCheck roomCheck
+    unfolding lentCheck lengthCheck
     lent-readable room h = rw (l, le-ltb room 9296 h)
 
     -- a whole number of blocks
@@ -69,21 +69,21 @@ module _ (s : List ℕ) where
     looked = ap (firstFrom (byteWrong s) 0) whole-blocks ∙ from-start (byteWrong s) (length s)
 
     pub blocks-refused : {b : ℕ} → first (sumWrong s) (length s / 512) ≡ some b → no (WrongBlock b) b ≡ fine (readable s)
-    unfolding readable blocksCheck fine told
+    unfolding readable fine told
     blocks-refused e = rw e
 
     module _ (b : first (sumWrong s) (length s / 512) ≡ none) where
       pub schema-refused : (le4 s 4 ≡ 4 → ⊥) → no (Schema (le4 s 4)) 0 ≡ fine (readable s)
-      unfolding readable blocksCheck schemaCheck fine told
+      unfolding readable fine told
       schema-refused e = rw (b, ne-eqb (le4 s 4) 4 e)
 
       module _ (v : le4 s 4 ≡ 4) where
         pub byte-refused : {i : ℕ} → firstFrom (byteWrong s) 0 (512 * (length s / 512)) ≡ some i → no (WrongByte i) i ≡ fine (readable s)
-        unfolding readable blocksCheck schemaCheck layoutCheck fine told
+        unfolding readable fine told
         byte-refused e = rw (b, eq-eqb (le4 s 4) 4 v, sym looked ∙ e)
 
         pub image-fine : firstFrom (byteWrong s) 0 (512 * (length s / 512)) ≡ none → answer Fine 0 D.one ≡ fine (readable s)
-        unfolding readable blocksCheck schemaCheck layoutCheck fine
+        unfolding readable fine
         image-fine e = rw (b, eq-eqb (le4 s 4) 4 v, sym looked ∙ e)
 
 -- ---- the same in the code's words: f and g are what its searches found, n its schema, a its answer

@@ -2,4 +2,5 @@
 --     Wholes       of exponents that are whole numbers: they can be declared
 pub mod Wholes
 -- on the way there
+mod Quotients
 mod Sums

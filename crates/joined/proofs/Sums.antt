@@ -22,13 +22,14 @@ use Rattle.dimension.specs.declared.rational.Ratio.the-variants.{Is}
 use Rattle.dimension.specs.declared.dimensions.Dimensions.{Dimensions}
 use Rattle.dimension.specs.declared.dimensions.Outcome.{Outcome}
 use Rattle.dimension.specs.declared.grade.ProductOp.{ProductOp}
-use Rattle.dimension.specs.declared.grade.ProductOp.the-variants.{Mul, Div, Dot, Wedge}
+use Rattle.dimension.specs.declared.grade.ProductOp.the-variants.{Div}
 use Rattle.dimension.proofs.BitLaws as B
 use Rattle.dimension.proofs.DimensionLaws as L
+use Rattle.rules.specs.Kinds.{sameOp}
 use Rattle.rules.specs.Table.{word, kindsOf, kindPlace, exponentFrom, dimsFrom}
 use Rattle.rules.specs.Arithmetic as rule
 use Rattle.table.proofs.Fields.{resolved-is}
-use Rattle.joined.specs.Shown.{wholeAt, wholeFrom, wholeKind, isDiv, joinedBy, joinedDims, dimsAt}
+use Rattle.joined.specs.Shown.{wholeAt, wholeFrom, wholeKind, joinedBy, joinedDims, dimsAt}
 use Rattle.joined.proofs.Wholes.{whole-told, whole-there, kind-given, kind-whole}
 
 -- the numerator of exponent b of those from place p on
@@ -99,14 +100,6 @@ module _ (t : List ℕ) (p q : ℕ) (a : (i : ℕ) → word t i < 4294967296) (e
   joined-is true = ap (λ (o : Outcome). o .value) (L.quotient-of _ _ (twelve p) (twelve q) (D.dimensions (tab (joinedAt t p q true) 12)) (length-tab (joinedAt t p q true) 12) (λ k h. difference-at k h ∙ ap Is (sym (tab-at (joinedAt t p q true) 12 k F.zero h))))
   joined-is false = ap (λ (o : Outcome). o .value) (L.product-of _ _ (twelve p) (twelve q) (D.dimensions (tab (joinedAt t p q false) 12)) (length-tab (joinedAt t p q false) 12) (λ k h. sum-at k h ∙ ap Is (sym (tab-at (joinedAt t p q false) 12 k F.zero h))))
 
--- the rules' word for it
-pub joined-op : (op : ProductOp) (a b : Dimensions) → joinedDims (isDiv op) a b ≡ rule.joined op a b
-unfolding rule.joined
-joined-op Mul a b = refl
-joined-op Div a b = refl
-joined-op Dot a b = refl
-joined-op Wedge a b = refl
-
 -- ---- in code: a and b are whether the two kinds are whole
 module _ (t : List ℕ) (l r : ℕ) {a b : Bool} (e : a ≡ wholeKind t l) (f : b ≡ wholeKind t r) (g : (a && b) ≡ true) where
   left-whole : wholeKind t l ≡ true
@@ -121,8 +114,9 @@ module _ (t : List ℕ) (l r : ℕ) {a b : Bool} (e : a ≡ wholeKind t l) (f : 
       let y = kind-whole t r right-whole in
       (whole-there t (kindPlace l) x, (whole-there t (kindPlace r) y, (x, y)))
 
-  pub joined-whole : (op : ProductOp) {div : Bool} {v : Dimensions} → div ≡ isDiv op → v ≡ joinedDims div (dimsFrom t (kindPlace l)) (dimsFrom t (kindPlace r)) → v ≡ rule.joined op (dimsAt (kindsOf t) l) (dimsAt (kindsOf t) r)
-  joined-whole op d q = rw (resolved-is t l refl (kind-given t l left-whole), resolved-is t r refl (kind-given t r right-whole), ← joined-op op (dimsFrom t (kindPlace l)) (dimsFrom t (kindPlace r)), ← d) q
+  pub joined-whole : (op : ProductOp) {div : Bool} {v : Dimensions} → div ≡ sameOp op Div → v ≡ joinedDims div (dimsFrom t (kindPlace l)) (dimsFrom t (kindPlace r)) → v ≡ rule.joined op (dimsAt (kindsOf t) l) (dimsAt (kindsOf t) r)
+  unfolding rule.joined
+  joined-whole op d q = rw (resolved-is t l refl (kind-given t l left-whole), resolved-is t r refl (kind-given t r right-whole), ← d) q
 
 -- x and y are the dimensions of the two kinds
 pub joined-plain : (t : List ℕ) (l : ℕ) (op : ProductOp) (r : ℕ) {x y z v : Dimensions} → x ≡ dimsAt (kindsOf t) l → y ≡ dimsAt (kindsOf t) r → z ≡ rule.joined op x y → v ≡ z → v ≡ rule.joined op (dimsAt (kindsOf t) l) (dimsAt (kindsOf t) r)

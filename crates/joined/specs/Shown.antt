@@ -1,6 +1,6 @@
 -- Whole exponents, and what private functions of the crate compute.
 use Prim.Native.Nat.{ℕ, _+_, _*_}
-use mathlib.Core.Bool.{Bool, true, false, cond, _&&_, _||_}
+use mathlib.Core.Bool.{Bool, cond, _&&_, _||_}
 use mathlib.Core.List.{List}
 use lib.Dec.{eqb, ltb, leb}
 use lib.IntN.{ℤ, _+ℤ_, _-ℤ_}
@@ -9,8 +9,6 @@ use Rattle.laws.specs.Options.{found, isSome}
 use Rattle.laws.specs.Ranges.{all}
 use Rattle.dimension.specs.Dimension as D
 use Rattle.dimension.specs.declared.dimensions.Dimensions.{Dimensions}
-use Rattle.dimension.specs.declared.grade.ProductOp.{ProductOp}
-use Rattle.dimension.specs.declared.grade.ProductOp.the-variants.{Mul, Div, Dot, Wedge}
 use Rattle.rules.specs.Kinds.{Kinds}
 use Rattle.rules.specs.Table.{word, kindsOf, kindPlace}
 
@@ -31,12 +29,6 @@ abbrev pub dimsAt : Kinds → ℕ → Dimensions
 dimsAt K k = found (K .dims k) (λ d. d) D.one
 
 -- ---- a quotient or a product: of two numbers, and of dimensions
-abbrev pub isDiv : ProductOp → Bool
-isDiv Mul = false
-isDiv Div = true
-isDiv Dot = false
-isDiv Wedge = false
-
 abbrev pub joinedBy : Bool → ℤ → ℤ → ℤ
 joinedBy div x y = cond div (x -ℤ y) (x +ℤ y)
 

@@ -4,5 +4,6 @@ mod whole;
 mod words;
 
 pub use whole::whole_from;
+pub use words::is_quotient;
 pub use words::joined;
 pub use words::joined_words;

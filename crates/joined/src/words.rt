@@ -15,24 +15,14 @@ ghost use mathlib.Core.Bool.{true};
 ghost use Prim.Native.Nat.{_+_, _*_, _<_, _≤_};
 ghost use lib.ListN.{length};
 ghost use Rattle.dimension.specs.Integer as I;
+ghost use Rattle.dimension.specs.declared.grade.ProductOp.the-variants.{Div};
+ghost use Rattle.rules.specs.Kinds.{sameOp};
 ghost use Rattle.rules.specs.Table as T;
 ghost use Rattle.rules.specs.Arithmetic as rule;
-ghost use Rattle.joined.specs.Shown.{wholeFrom, wholeKind, isDiv, joinedBy, joinedDims, dimsAt};
+ghost use Rattle.joined.specs.Shown.{wholeFrom, wholeKind, joinedBy, joinedDims, dimsAt};
 
-// Exponents are added, in a quotient subtracted.
-pub fn joined(op: ProductOp, a: Dimensions, b: Dimensions) -> Dimensions
-    ensures { λ v. ⌜ v ≡ rule.joined op a b ⌝ }
-{
-    match op {
-        ProductOp::Mul => a.product(b).value,
-        ProductOp::Div => a.quotient(b).value,
-        ProductOp::Dot => a.product(b).value,
-        ProductOp::Wedge => a.product(b).value,
-    }
-}
-
-fn is_div(op: ProductOp) -> bool
-    ensures { λ v. ⌜ v ≡ isDiv op ⌝ }
+pub fn is_quotient(op: ProductOp) -> bool
+    ensures { λ v. ⌜ v ≡ sameOp op Div ⌝ }
 {
     match op {
         ProductOp::Mul => false,
@@ -40,6 +30,16 @@ fn is_div(op: ProductOp) -> bool
         ProductOp::Dot => false,
         ProductOp::Wedge => false,
     }
+}
+
+// Exponents are added, in a quotient subtracted.
+pub fn joined(op: ProductOp, a: Dimensions, b: Dimensions) -> Dimensions
+    ensures { λ v. ⌜ v ≡ rule.joined op a b ⌝ }
+{
+    if is_quotient(op) {
+        return a.quotient(b).value;
+    }
+    a.product(b).value
 }
 
 // The numerator of exponent b, from the whole numbers that stand from places p and q on: none of their sums and differences is over the limits.
@@ -96,7 +96,7 @@ pub fn joined_words(t: &[u32], l: u16, op: ProductOp, r: u16) -> Exponents
     if is_whole(t, l) & is_whole(t, r) {
         return whole_words(
             t,
-            is_div(op),
+            is_quotient(op),
             KINDS + KIND * l as usize,
             KINDS + KIND * r as usize,
         );

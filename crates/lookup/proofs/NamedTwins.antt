@@ -2,7 +2,7 @@
 use Prim.Native.Nat.{ℕ, _≤_}
 use mathlib.Core.Path.{_≡_, refl, sym, _∙_, ap}
 use mathlib.Core.Bool.{Bool, true, false, cond, not}
-use mathlib.Core.List.{List}
+use mathlib.Core.List.{List, [], _∷_}
 use mathlib.Core.Option.{Option, some, none}
 use borrow.Author.Tests.{le-ltb}
 use lib.Dec.{ltb, eqb}
@@ -112,23 +112,23 @@ module _ (K : Kinds) (l : ℕ) (op : ProductOp) (r : ℕ) where
   fits-derived x e = rw (fitsDerived, e)
 
   settled-names : (R : Rows) (x : Graded) → rule.derive K l op r ≡ given x
-      → Names K (rule.settle (rule.resolve K l op r x) (why.NoProductKind x) (λ ks. known (R l op r) (refused (why.UnresolvedTwin l op r ks))))
+      → Names K (rule.settle (rule.resolve K l op r x) (refused (why.NoProductKind x)) given (λ ks. known (R l op r) (refused (why.UnresolvedTwin l op r ks))))
   unfolding rule.resolve named twinsOf told
   settled-names R x e = go (rule.orFitting K (orElse (rule.neutral K l op r) (rule.rated K l op r)) x) refl (R l op r)
     where
-      go : (m : rule.Resolved) → rule.orFitting K (orElse (rule.neutral K l op r) (rule.rated K l op r)) x ≡ m → (o : Option ℕ)
-          → Names K (rule.settle m (why.NoProductKind x) (λ ks. known o (refused (why.UnresolvedTwin l op r ks))))
-      go (rule.is k) p o = tt
-      go rule.nothing p o = refl
-      go (rule.twins ks) p (some k) = tt
-      go (rule.twins ks) p none = ap (λ (q : ProductOp). fitsDerived K l q r) (op-back op) ∙ fits-derived x e ∙ sym (fitting-all K (orElse (rule.neutral K l op r) (rule.rated K l op r)) x p)
+      go : (m : List ℕ) → rule.orFitting K (orElse (rule.neutral K l op r) (rule.rated K l op r)) x ≡ m → (o : Option ℕ)
+          → Names K (rule.settle m (refused (why.NoProductKind x)) given (λ ks. known o (refused (why.UnresolvedTwin l op r ks))))
+      go (k ∷ []) p o = tt
+      go [] p o = refl
+      go (j ∷ m ∷ ks) p (some k) = tt
+      go (j ∷ m ∷ ks) p none = ap (λ (q : ProductOp). fitsDerived K l q r) (op-back op) ∙ fits-derived x e ∙ sym (fitting-all K (orElse (rule.neutral K l op r) (rule.rated K l op r)) x p)
 
   product-names : (R : Rows) → Names K (rule.product K R l op r)
   unfolding rule.product
   product-names R = go (rule.derive K l op r) refl (derive-names K l op r)
     where
       go : (m : Answer Graded) → rule.derive K l op r ≡ m → Names K m
-          → Names K (m >>= λ x. rule.settle (rule.resolve K l op r x) (why.NoProductKind x) (λ ks. known (R l op r) (refused (why.UnresolvedTwin l op r ks))))
+          → Names K (m >>= λ x. rule.settle (rule.resolve K l op r x) (refused (why.NoProductKind x)) given (λ ks. known (R l op r) (refused (why.UnresolvedTwin l op r ks))))
       go (given x) p q = settled-names R x p
       go (refused x) p q = q
 
@@ -152,14 +152,14 @@ module _ (K : Kinds) (k : ℕ) (e : Rational) where
       names-next K (refuseIf (not (eqb (K .grade k) 0)) (why.UngradedPower (K .grade k))) _ (if-names K (not (eqb (K .grade k) 0)) (why.UngradedPower (K .grade k)) refl)
       (go (K .dims k) refl)
     where
-      settled : (d : Dimensions) (m : rule.Resolved) → K .dims k ≡ some d → rule.orFitting K (rule.neutralPower K k e) (at (D.power d e .value) 0) ≡ m
-          → Names K (rule.settle m (why.NoPowerKind (D.power d e .value)) (λ ks. refused (why.UnresolvedPowerTwin k e ks)))
-      settled d (rule.is j) p q = tt
-      settled d rule.nothing p q = refl
-      settled d (rule.twins ks) p q = rw p (sym (fitting-all K (rule.neutralPower K k e) (at (D.power d e .value) 0) q))
+      settled : (d : Dimensions) (m : List ℕ) → K .dims k ≡ some d → rule.orFitting K (rule.neutralPower K k e) (at (D.power d e .value) 0) ≡ m
+          → Names K (rule.settle m (refused (why.NoPowerKind (D.power d e .value))) given (λ ks. refused (why.UnresolvedPowerTwin k e ks)))
+      settled d (j ∷ []) p q = tt
+      settled d [] p q = refl
+      settled d (j ∷ m ∷ ks) p q = rw p (sym (fitting-all K (rule.neutralPower K k e) (at (D.power d e .value) 0) q))
 
       go : (o : Option Dimensions) → K .dims k ≡ o
-          → Names K (needed o (why.UnresolvedDimensions k) >>= λ a. refuseIf (D.power a e .over) (why.PowerOverLimits k) >> (given (D.power a e .value) >>= λ d. rule.settle (rule.orFitting K (rule.neutralPower K k e) (record { dims = d; grade = 0 })) (why.NoPowerKind d) (λ ks. refused (why.UnresolvedPowerTwin k e ks))))
+          → Names K (needed o (why.UnresolvedDimensions k) >>= λ a. refuseIf (D.power a e .over) (why.PowerOverLimits k) >> (given (D.power a e .value) >>= λ d. rule.settle (rule.orFitting K (rule.neutralPower K k e) (record { dims = d; grade = 0 })) (refused (why.NoPowerKind d)) given (λ ks. refused (why.UnresolvedPowerTwin k e ks))))
       go none p = refl
       go (some d) p = names-next K (refuseIf (D.power d e .over) (why.PowerOverLimits k)) _ (if-names K (D.power d e .over) (why.PowerOverLimits k) refl) (settled d _ p refl)
 
@@ -179,7 +179,7 @@ module _ (K : Kinds) where
   powered-names k lone.inexact = names-next K (rule.indexed K k) _ (indexed-names K k) (power-names 9 k none)
   powered-names k (lone.exact n d) = go (F.answer n d)
     where
-      go : (u : Ratio) → Names K (lone.limited u >>= λ e. rule.indexed K k >> rule.power K 8 k e)
+      go : (u : Ratio) → Names K (elim u [ Is e ↦ given (some e) | Over ↦ refused (why.Malformed 0) ] >>= λ e. rule.indexed K k >> rule.power K 8 k e)
       go (Is e) = names-next K (rule.indexed K k) _ (indexed-names K k) (power-names 8 k (some e))
       go Over = refl
 

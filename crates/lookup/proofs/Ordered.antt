@@ -1,13 +1,13 @@
 -- 50, 41, 41 and then the lookup: one law a return. Assumes nothing.
 use Prim.Native.Nat.{ℕ, zero, suc, _<_, _≤_}
-use mathlib.Core.Path.{_≡_, refl, _∙_}
+use mathlib.Core.Path.{_≡_, refl, sym, _∙_, subst}
 use mathlib.Core.Bool.{true, false, true≢false, _||_}
 use mathlib.Core.Option.{Option, some, none}
 use lib.Dec.{ltb}
 use lib.IntN.{ℤ}
 use native.Mathlib.Omega.{arith}
 use borrow.Author.Tests.{lt-ltb, le-ltb, ltb-false}
-use Rattle.laws.specs.Out.{needed, _>>=_, _>>_}
+use Rattle.laws.specs.Out.{given, refused, needed, _>>=_, _>>_}
 use Rattle.laws.proofs.Cases.{or-neither}
 use Rattle.dimension.specs.Fraction as F
 use Rattle.dimension.specs.declared.rational.Rational.{Rational}
@@ -124,15 +124,19 @@ module _ (K : Kinds) (code k : ℕ) (o : Option Rational) {v : Answer} {c : ℕ}
   unfolding indexedPower rule.indexed
   base-in h q = rw (index-in K k e h) q
 
+-- a power by an exponent that is reduced, or over the limits
+abbrev reducedPower : Kinds → ℕ → Ratio → why.Answer ℕ
+reducedPower K k u = elim u [ Is e ↦ given (some e) | Over ↦ refused (why.Malformed 0) ] >>= λ e. indexedPower K 8 k e
+
 module _ (K : Kinds) (k : ℕ) {v : Answer} where
   module _ (num : ℤ) (den : ℕ) {u : Ratio} (f : u ≡ F.answer num den) where
     pub exact-within : {e : Rational} → u ≡ Is e → v ≡ looked (indexedPower K 8 k (some e)) → v ≡ looked (powerBy K k (lone.exact num den))
     unfolding powerBy
-    exact-within p h = rw (← f, p) h
+    exact-within p h = subst (λ (u : Ratio). v ≡ looked (reducedPower K k u)) (sym p ∙ f) h
 
     pub exact-over : u ≡ Over → v ≡ no (cause.Malformed 0) → v ≡ looked (powerBy K k (lone.exact num den))
     unfolding looked told powerBy
-    exact-over p h = rw (← f, p) h
+    exact-over p h = subst (λ (u : Ratio). v ≡ looked (reducedPower K k u)) (sym p ∙ f) h
 
   pub inexactly : v ≡ looked (indexedPower K 9 k none) → v ≡ looked (powerBy K k lone.inexact)
   unfolding powerBy

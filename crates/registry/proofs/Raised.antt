@@ -1,17 +1,21 @@
 -- A power's answer: one law a return. Assumes nothing.
 use Prim.Native.Nat.{ℕ}
-use mathlib.Core.Path.{_≡_}
+use mathlib.Core.Path.{_≡_, refl, sym, _∙_, ap}
 use mathlib.Core.Bool.{Bool, true, false, not}
+use mathlib.Core.List.{List}
 use mathlib.Core.Option.{some, none}
 use borrow.Author.Tests.{eq-eqb, ne-eqb}
 use Rattle.laws.specs.Options.{isSome}
+use Rattle.laws.specs.Out.{given, refused}
 use Rattle.dimension.specs.Fraction as F
 use Rattle.dimension.specs.Dimension as D
 use Rattle.dimension.specs.declared.rational.Rational.{Rational}
 use Rattle.dimension.specs.declared.dimensions.Dimensions.{Dimensions}
 use Rattle.dimension.specs.declared.dimensions.Outcome.{Outcome}
 use Rattle.rules.specs.Kinds.{Kinds, point, candidates}
+use Rattle.rules.specs.Refusal as why
 use Rattle.rules.specs.Refusal.{told}
+use lib.ListN.{length}
 use Rattle.rules.specs.Arithmetic as rule
 use Rattle.error.specs.Shown.{answer, linked}
 use Rattle.error.specs.declared.answer.Answer.{Answer}
@@ -23,25 +27,32 @@ use Rattle.error.specs.declared.cause.Error.the-variants as cause
 use Rattle.fitting.specs.Shown.{at, fitOf, twinsFrom}
 use Rattle.fitting.specs.declared.sought.Fit.{Fit}
 use Rattle.fitting.specs.declared.sought.Fit.the-variants.{Only, Second, Nothing}
-use Rattle.fitting.proofs.Twins.{fitting-only, fitting-second, fitting-nothing, twins-counted}
+use Rattle.fitting.proofs.Twins.{only-fits, second-fits, nothing-fits, settle-several, twins-counted}
 use Rattle.joined.specs.Shown.{dimsAt}
 use Rattle.derive.proofs.Derives.{is-none, is-some}
 use Rattle.registry.specs.Shown.{looked, kindAs, no, raisedAs, fittedPower, overAs}
+
+-- several kinds fit: 48
+looked-twins : (k : ℕ) (e : Rational) (ks : List ℕ) → no (cause.UnresolvedPowerTwin k (e .num) (e .den) (length ks)) ≡ looked (refused (why.UnresolvedPowerTwin k e ks))
+unfolding looked told
+looked-twins k e ks = refl
 
 module _ (K : Kinds) (k : ℕ) (e : Rational) {v : Answer} where
   -- ---- the only kind that fits these dimensions: c is what the words stand for, w what was found
   module _ (d : Dimensions) {c : Dimensions} (q : c ≡ d) {w : Fit} (f : w ≡ fitOf (candidates K (at c 0))) where
     pub fitted-only : {m : ℕ} → w ≡ Only m → v ≡ kindAs m → v ≡ looked (fittedPower K k e d)
     unfolding looked
-    fitted-only p h = rw (← q, fitting-only (candidates K (at c 0)) p f) h
+    fitted-only p h = rw (← q, only-fits (candidates K (at c 0)) p f) h
 
     pub fitted-several : {m n : ℕ} → w ≡ Second m → n ≡ twinsFrom K (at c 0) m → v ≡ no (cause.UnresolvedPowerTwin k (e .num) (e .den) n) → v ≡ looked (fittedPower K k e d)
-    unfolding looked told
-    fitted-several p s h = rw (← q, fitting-second (candidates K (at c 0)) p f, ← twins-counted K (at c 0) p f, ← s) h
+    fitted-several p s h =
+        h ∙ ap (λ (i : ℕ). no (cause.UnresolvedPowerTwin k (e .num) (e .den) i)) (s ∙ twins-counted K (at c 0) p f)
+        ∙ looked-twins k e (candidates K (at c 0))
+        ∙ ap looked (rw (← q) (sym (settle-several (candidates K (at c 0)) _ given _ (second-fits (candidates K (at c 0)) p f))))
 
     pub fitted-none : {y : Dimensions} → w ≡ Nothing → y ≡ c → v ≡ answer (Refused cause.NoPowerKind) 0 y → v ≡ looked (fittedPower K k e d)
     unfolding looked told
-    fitted-none p s h = rw (← q, fitting-nothing (candidates K (at c 0)) p f, ← s) h
+    fitted-none p s h = rw (← q, nothing-fits (candidates K (at c 0)) p f, ← s) h
 
   -- ---- u is what is known
   module _ (d : Dimensions) {u : Link} (q : u ≡ linked (rule.neutralPower K k e)) where

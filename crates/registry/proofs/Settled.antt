@@ -23,7 +23,7 @@ use Rattle.error.specs.declared.cause.Error.the-variants as cause
 use Rattle.fitting.specs.Shown.{at, fitOf, twinsFrom}
 use Rattle.fitting.specs.declared.sought.Fit.{Fit}
 use Rattle.fitting.specs.declared.sought.Fit.the-variants.{Only, Second, Nothing}
-use Rattle.fitting.proofs.Twins.{fitting-only, fitting-second, fitting-nothing, twins-counted}
+use Rattle.fitting.proofs.Twins.{only-fits, second-fits, nothing-fits, settle-several, twins-counted}
 use Rattle.derive.specs.Shown.{ruledAs}
 use Rattle.derive.specs.declared.derivation.GradeRuling.{GradeRuling}
 use Rattle.derive.specs.declared.derivation.GradeRuling.the-variants as ruling
@@ -50,18 +50,18 @@ module _ (K : Kinds) (R : Rows) (l : ℕ) (op : ProductOp) (r : ℕ) {a : Answer
     module _ {d : Dimensions} (q : d ≡ joinedAs K l op r g .dims) {v : Fit} (e : v ≡ fitOf (candidates K (at d g))) where
       pub fitted-only : {k : ℕ} → v ≡ Only k → a ≡ kindAs k → a ≡ looked (fittedAs K R l op r (joinedAs K l op r g))
       unfolding looked
-      fitted-only p h = rw (← q, fitting-only (candidates K (at d g)) p e) h
+      fitted-only p h = rw (← q, only-fits (candidates K (at d g)) p e) h
 
       pub fitted-several : {m : ℕ} → v ≡ Second m → a ≡ found (R l op r) kindAs (no (cause.UnresolvedTwin l (codeOf op) r (twinsFrom K (at d g) m))) → a ≡ looked (fittedAs K R l op r (joinedAs K l op r g))
       unfolding told
       fitted-several {m} p h =
           h ∙ ap (λ (n : ℕ). found (R l op r) kindAs (no (cause.UnresolvedTwin l (codeOf op) r n))) (twins-counted K (at d g) p e)
           ∙ looked-known (R l op r) (why.UnresolvedTwin l op r (candidates K (at d g))) refl
-          ∙ sym (rw (← q, fitting-second (candidates K (at d g)) p e))
+          ∙ ap looked (rw (← q) (sym (settle-several (candidates K (at d g)) _ given _ (second-fits (candidates K (at d g)) p e))))
 
       pub fitted-none : {y : Dimensions} → v ≡ Nothing → y ≡ d → a ≡ answer (Refused (cause.NoProductKind g)) 0 y → a ≡ looked (fittedAs K R l op r (joinedAs K l op r g))
       unfolding looked told
-      fitted-none p s h = rw (← q, fitting-nothing (candidates K (at d g)) p e, ← s) h
+      fitted-none p s h = rw (← q, nothing-fits (candidates K (at d g)) p e, ← s) h
 
     -- ---- u is what is known
     module _ {u : Link} (e : u ≡ linked (orElse (rule.neutral K l op r) (rule.rated K l op r))) where

@@ -34,22 +34,22 @@ joinedAs K l op r g = at (arithmetic.joined op (dimsAt K l) (dimsAt K r)) g
 -- a product, from the kinds that fit
 abbrev pub fittedAs : Kinds → Rows → ℕ → ProductOp → ℕ → Graded → rule.Answer ℕ
 fittedAs K R l op r x =
-    arithmetic.settle (arithmetic.fitting (candidates K x)) (rule.NoProductKind x) (λ ks. known (R l op r) (refused (rule.UnresolvedTwin l op r ks)))
+    arithmetic.settle (candidates K x) (refused (rule.NoProductKind x)) given (λ ks. known (R l op r) (refused (rule.UnresolvedTwin l op r ks)))
 
 -- a product whose dimensions and grade are derived
 abbrev pub settledAs : Kinds → Rows → ℕ → ProductOp → ℕ → Graded → rule.Answer ℕ
 settledAs K R l op r x =
-    arithmetic.settle (arithmetic.resolve K l op r x) (rule.NoProductKind x) (λ ks. known (R l op r) (refused (rule.UnresolvedTwin l op r ks)))
+    arithmetic.settle (arithmetic.resolve K l op r x) (refused (rule.NoProductKind x)) given (λ ks. known (R l op r) (refused (rule.UnresolvedTwin l op r ks)))
 
 -- a power that has these dimensions
 abbrev pub raisedAs : Kinds → ℕ → Rational → Dimensions → rule.Answer ℕ
 raisedAs K k e d =
-    arithmetic.settle (arithmetic.orFitting K (arithmetic.neutralPower K k e) (record { dims = d; grade = 0 })) (rule.NoPowerKind d)
+    arithmetic.settle (arithmetic.orFitting K (arithmetic.neutralPower K k e) (record { dims = d; grade = 0 })) (refused (rule.NoPowerKind d)) given
     (λ ks. refused (rule.UnresolvedPowerTwin k e ks))
 
 -- the same, from the kinds that fit
 abbrev pub fittedPower : Kinds → ℕ → Rational → Dimensions → rule.Answer ℕ
-fittedPower K k e d = arithmetic.settle (arithmetic.fitting (candidates K (at d 0))) (rule.NoPowerKind d) (λ ks. refused (rule.UnresolvedPowerTwin k e ks))
+fittedPower K k e d = arithmetic.settle (candidates K (at d 0)) (refused (rule.NoPowerKind d)) given (λ ks. refused (rule.UnresolvedPowerTwin k e ks))
 
 -- a power of a kind that has these dimensions
 abbrev pub overAs : Kinds → ℕ → Rational → Dimensions → rule.Answer ℕ

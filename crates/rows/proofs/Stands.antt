@@ -8,7 +8,7 @@ use native.Mathlib.Omega.{arith}
 use lib.Dec.{eqb, ltb}
 use lib.ListN.{length}
 use borrow.Author.Tests.{eqb-true, eq-eqb, not-true, not-false}
-use Rattle.laws.specs.Out.{refused, needed, known, _>>=_, _>>_}
+use Rattle.laws.specs.Out.{given, refused, needed, known, _>>=_, _>>_}
 use Rattle.laws.specs.Ranges.{first, all}
 use Rattle.laws.proofs.First.{first-below, first-passes}
 use Rattle.laws.proofs.All.{all-at}
@@ -52,7 +52,7 @@ module _ (t tw : List ℕ) (code l r : ℕ) (fine : Bool) (named : Link) {v : An
 -- ---- a lookup reads of its rows whether they are in range, and what they name for the pair
 module _ (K : Kinds) (l r : ℕ) where
   abbrev product-by : ProductOp → Option ℕ → why.Answer ℕ
-  product-by op o = rule.derive K l op r >>= λ x. rule.settle (rule.resolve K l op r x) (why.NoProductKind x) (λ ks. known o (refused (why.UnresolvedTwin l op r ks)))
+  product-by op o = rule.derive K l op r >>= λ x. rule.settle (rule.resolve K l op r x) (refused (why.NoProductKind x)) given (λ ks. known o (refused (why.UnresolvedTwin l op r ks)))
 
   product-reads : (R : Rows) (op : ProductOp) → rule.product K R l op r ≡ product-by op (R l op r)
   unfolding rule.product

@@ -16,7 +16,7 @@ use Rattle.dimension.specs.declared.grade.ProductOp.{ProductOp}
 use Rattle.dimension.specs.declared.grade.ProductOp.the-variants.{Mul, Div, Dot, Wedge}
 use Rattle.dimension.specs.declared.grade.Grade.{Grade}
 use Rattle.dimension.specs.declared.grade.Grade.the-variants.{Single, Absent}
-use Rattle.rules.specs.Kinds.{Kinds, Rows, Graded, point, duration, candidates}
+use Rattle.rules.specs.Kinds.{Kinds, Rows, Graded, sameOp, point, duration, candidates}
 use Rattle.rules.specs.Refusal.{Answer, Refusal, UnresolvedDimensions, Point, Ungraded, PowerOverLimits, NoKind, KindMismatch, UnsupportedOperation, UnresolvedTwin, NoProductKind, UngradedPower, NoPowerKind, UnresolvedPowerTwin, absent, codeOf}
 
 -- 41: "kind index past the end"
@@ -27,11 +27,9 @@ indexed K k = refuseIf (not (ltb k (K .count))) (NoKind k)
 unfoldable pub operand : Kinds → ℕ → Answer Dimensions
 operand K k = needed (K .dims k) (UnresolvedDimensions k)
 
--- 24
-module _ {E : Type 0} where
-  abbrev pub single : Grade → E → Out E ℕ
-  single (Single g) x = given g
-  single Absent x = refused x
+-- 24: "no single grade"
+abbrev pub single : {E : Type 0} → Grade → E → Out E ℕ
+single g x = elim g [ Single a ↦ given a | Absent ↦ refused x ]
 
 -- the grade rule of this catalog
 unfoldable pub gradeBy : Kinds → ProductOp → ℕ → ℕ → Grade
@@ -42,10 +40,7 @@ graded K l op r = single (gradeBy K op (K .grade l) (K .grade r)) (Ungraded l r 
 
 -- "products add or subtract exponents"
 unfoldable pub joined : ProductOp → Dimensions → Dimensions → Dimensions
-joined Mul a b = D.product a b .value
-joined Div a b = D.quotient a b .value
-joined Dot a b = D.product a b .value
-joined Wedge a b = D.product a b .value
+joined op a b = cond (sameOp op Div) (D.quotient a b .value) (D.product a b .value)
 
 -- "Then for a product: 19 left, 19 right, 23 left, 23 right, 24."
 unfoldable pub derive : Kinds → ℕ → ProductOp → ℕ → Answer Graded
@@ -77,35 +72,24 @@ ratedBy K Wedge d l r = none
 unfoldable pub rated : Kinds → ℕ → ProductOp → ℕ → Option ℕ
 rated K l op r = found (duration K) (λ d. ratedBy K op d l r) none
 
--- a kind; several that fit; none
-pub data Resolved : Type 0 where
-  is : ℕ → Resolved
-  twins : List ℕ → Resolved
-  nothing : Resolved
+-- the kind that is known already, or else those that fit
+abbrev pub orFitting : Kinds → Option ℕ → Graded → List ℕ
+orFitting K o x = found o (λ k. k ∷ []) (candidates K x)
 
--- "then one fitting non-point kind is the answer, none is 45, several need the row"
-abbrev pub fitting : List ℕ → Resolved
-fitting [] = nothing
-fitting (k ∷ []) = is k
-fitting (k ∷ m ∷ ks) = twins (k ∷ m ∷ ks)
-
--- the kind that is known already, or else one that fits
-abbrev pub orFitting : Kinds → Option ℕ → Graded → Resolved
-orFitting K o x = found o is (fitting (candidates K x))
-
-unfoldable pub resolve : Kinds → ℕ → ProductOp → ℕ → Graded → Resolved
+unfoldable pub resolve : Kinds → ℕ → ProductOp → ℕ → Graded → List ℕ
 resolve K l op r x = orFitting K (orElse (neutral K l op r) (rated K l op r)) x
 
-abbrev pub settle : Resolved → Refusal → (List ℕ → Answer ℕ) → Answer ℕ
-settle (is k) x several = given k
-settle (twins ks) x several = several ks
-settle nothing x several = refused x
+-- "then one fitting non-point kind is the answer, none is 45, several need the row": what is said where there is none, one, or several
+abbrev pub settle : {A : Type 0} → List ℕ → A → (ℕ → A) → (List ℕ → A) → A
+settle [] nothing one several = nothing
+settle (k ∷ []) nothing one several = one k
+settle (k ∷ m ∷ ks) nothing one several = several (k ∷ m ∷ ks)
 
 -- "The answer reads, of all rows, only that of this very left, operation and right."
 unfoldable pub product : Kinds → Rows → ℕ → ProductOp → ℕ → Answer ℕ
 product K rows l op r = do
   x ← derive K l op r
-  settle (resolve K l op r x) (NoProductKind x) (λ ks. known (rows l op r) (refused (UnresolvedTwin l op r ks)))
+  settle (resolve K l op r x) (refused (NoProductKind x)) given (λ ks. known (rows l op r) (refused (UnresolvedTwin l op r ks)))
 
 -- ---- sums
 pub data Sum : Type 0 where
@@ -130,9 +114,7 @@ sum K s l r = sumBy s (K .difference l) (K .difference r) l r
 
 -- times or over a number, or without its sign: the Rust's `Kind::scaled`
 unfoldable pub scaled : Kinds → ℕ → ℕ → Answer ℕ
-scaled K code k = do
-  refuseIf (point K k) (UnsupportedOperation code k absent)
-  given k
+scaled K code k = refuseIf (point K k) (UnsupportedOperation code k absent) >> given k
 
 -- ---- powers
 -- "then exponent zero or the dimensionless kind gives that kind where declared"
@@ -146,14 +128,12 @@ raised K k e = do
   a ← operand K k
   refuseIf (D.power a e .over) (PowerOverLimits k)
   d ← given (D.power a e .value)
-  settle (orFitting K (neutralPower K k e) (record { dims = d; grade = 0 })) (NoPowerKind d) (λ ks. refused (UnresolvedPowerTwin k e ks))
+  settle (orFitting K (neutralPower K k e) (record { dims = d; grade = 0 })) (refused (NoPowerKind d)) given (λ ks. refused (UnresolvedPowerTwin k e ks))
 
 -- "Power: 43 (point or inexact), exponent one gives the kind". No exponent: an inexact one; the code is the token's
 unfoldable pub power : Kinds → ℕ → ℕ → Option Rational → Answer ℕ
 power K code k none = refused (UnsupportedOperation code k absent)
-power K code k (some e) = do
-  scaled K code k
-  cond (F.isOne e) (given k) (raised K k e)
+power K code k (some e) = scaled K code k >> cond (F.isOne e) (given k) (raised K k e)
 
 -- ---- the Rust's `Op`: what two kinds are combined by
 pub data Op : Type 0 where
@@ -162,8 +142,7 @@ pub data Op : Type 0 where
 
 -- `Kind::combine`
 unfoldable pub combine : Kinds → Rows → Op → ℕ → ℕ → Answer ℕ
-combine K rows (summed s) l r = sum K s l r
-combine K rows (multiplied op) l r = product K rows l op r
+combine K rows o l r = elim o [ summed s ↦ sum K s l r | multiplied op ↦ product K rows l op r ]
 
 -- "2 Add, 3 Sub, 4 Mul, 5 Div, 6 Dot, 7 Wedge"
 abbrev pub ops : List Op

@@ -34,35 +34,21 @@ same (x ∷ a) [] = false
 same (x ∷ a) (y ∷ b) = eqb x y && same a b
 
 -- ---- records
-pub record Kind : Type 0 where
-  pub id : Id
-  pub difference : Id
-  pub rateOf : Id
-  pub dims : Option Dimensions
-  pub grade : ℕ
+abbrev pub Kind : Type 0
+Kind = record { id : Id; difference : Id; rateOf : Id; dims : Option Dimensions; grade : ℕ }
 
-pub record Row : Type 0 where
-  pub left : Id
-  pub right : Id
-  pub result : Id
-  pub op : ProductOp
-  pub commutative : Bool
+abbrev pub Row : Type 0
+Row = record { left : Id; right : Id; result : Id; op : ProductOp; commutative : Bool }
 
-pub record Catalog : Type 0 where
-  pub kindCount : ℕ
-  pub kind : ℕ → Kind
-  pub dimensionless : Id
-  pub time : Id
-  pub rowCount : ℕ
-  pub row : ℕ → Row
+abbrev pub Catalog : Type 0
+Catalog = record { kindCount : ℕ; kind : ℕ → Kind; dimensionless : Id; time : Id; rowCount : ℕ; row : ℕ → Row }
 
 -- ---- read from the image
 unfoldable pub idAt : List ℕ → ℕ → Id
 idAt s p = tab (λ i. byte s (p + i)) 32
 
 abbrev pub orZero : Ratio → Rational
-orZero (Is e) = e
-orZero Over = F.zero
+orZero r = elim r [ Is e ↦ e | Over ↦ F.zero ]
 
 -- "signed 16-bit numerator, 16-bit denominator"; "A fraction is reduced on reading (2/4 is 1/2); zero means the base is absent."
 -- What is no fraction (4 refuses it first) reads as absent too.
@@ -75,23 +61,11 @@ dimsAt s p = cond (eqb (byte s (p + 144)) 1) (some (D.dimensions (tab (λ b. exp
 
 -- "id at 0, difference id at 32, rate-of id at 64, .., grade 0 to 3 at 145"
 unfoldable pub kindFrom : List ℕ → ℕ → Kind
-kindFrom s p = record {
-  id = idAt s p;
-  difference = idAt s (p + 32);
-  rateOf = idAt s (p + 64);
-  dims = dimsAt s p;
-  grade = byte s (p + 145);
-}
+kindFrom s p = record { id = idAt s p; difference = idAt s (p + 32); rateOf = idAt s (p + 64); dims = dimsAt s p; grade = byte s (p + 145) }
 
 -- "left, right, result ids at 0, 32, 64; operation at 96 ..; commutative 0 or 1 at 97"
 unfoldable pub rowFrom : List ℕ → ℕ → Row
-rowFrom s p = record {
-  left = idAt s p;
-  right = idAt s (p + 32);
-  result = idAt s (p + 64);
-  op = opOf (byte s (p + 96));
-  commutative = eqb (byte s (p + 97)) 1;
-}
+rowFrom s p = record { left = idAt s p; right = idAt s (p + 32); result = idAt s (p + 64); op = opOf (byte s (p + 96)); commutative = eqb (byte s (p + 97)) 1 }
 
 -- the record of kind k and of row r: "three records each", "five each", from byte 4 of their blocks
 abbrev pub kindAt : ℕ → ℕ

@@ -1,9 +1,11 @@
 -- Compilation, "then as `Registry::compile`: all ids (empty, then duplicate, kind by kind); differences; dimensionless; time; rates in kind order;
 -- rows in order". A rule for each record, over the kinds that the whole catalog comes to: each reads only what earlier rules have checked.
 use Prim.Native.Nat.{ℕ}
-use mathlib.Core.Bool.{Bool, true, false, cond, not, _&&_}
-use mathlib.Core.Option.{Option, some, none}
+use mathlib.Core.Bool.{Bool, false, cond, not, _&&_}
+use mathlib.Core.List.{List}
+use mathlib.Core.Option.{Option, some}
 use lib.Dec.{eqb}
+use Rattle.laws.specs.Options.{found, isSome}
 use Rattle.laws.specs.Out.{given, refused, _>>=_, _>>_, refuseIf, refuseFound, needed, each}
 use Rattle.laws.specs.Ranges.{first}
 use Rattle.dimension.specs.Dimension as D
@@ -11,7 +13,7 @@ use Rattle.dimension.specs.declared.dimensions.Dimensions.{Dimensions}
 use Rattle.dimension.specs.declared.grade.ProductOp.the-variants.{Div}
 use Rattle.rules.specs.Kinds.{Kinds, Rows, Graded, sameOp, point, duration, carries}
 use Rattle.rules.specs.Refusal.{Answer, Placed, at, EmptyId, Duplicate, Unknown, AffineDimensionMismatch, NestedAffineSpace, InvalidDimensionlessKind, InvalidTimeKind, NoTimeKind, PointRate, RateMismatch, AlsoRateOf, CommutativeQuotient, Point, InvalidOperationRule, DerivedOperationRule, ConflictingOperationRule}
-use Rattle.rules.specs.Arithmetic.{Resolved, is, twins, nothing, operand, derive, resolve}
+use Rattle.rules.specs.Arithmetic.{operand, derive, resolve, settle}
 use Rattle.rules.specs.Catalog.{Id, blank, same, Catalog, find, rateAmong, role, kindsOf, rowAmong, rowsOf}
 
 abbrev pub Checked : Type 0
@@ -23,10 +25,7 @@ ifDeclared id rule = cond (blank id) (given tt) rule
 
 -- 13, "also where just one of the two is unresolved"
 abbrev pub sameDims : Option Dimensions → Option Dimensions → Bool
-sameDims none none = true
-sameDims none (some b) = false
-sameDims (some a) none = false
-sameDims (some a) (some b) = D.equal a b
+sameDims a b = found a (λ x. found b (D.equal x) false) (not (isSome b))
 
 module _ (C : Catalog) where
   abbrev K : Kinds
@@ -76,10 +75,8 @@ module _ (C : Catalog) where
     refuseFound (rateAmong C k t) AlsoRateOf)
 
   -- 25, 26: "it is accepted only where several kinds fit and it names one of them"
-  abbrev pub several : Resolved → Graded → Checked
-  several (is k) x = refused (DerivedOperationRule k)
-  several (twins ks) x = given tt
-  several nothing x = refused (InvalidOperationRule x)
+  abbrev pub several : List ℕ → Graded → Checked
+  several ks x = settle ks (refused (InvalidOperationRule x)) (λ k. refused (DerivedOperationRule k)) (λ more. given tt)
 
   -- 27: no earlier row is for left, operation and right
   unfoldable pub fresh : ℕ → ℕ → ℕ → Checked
@@ -114,11 +111,8 @@ module _ (C : Catalog) where
     eachRecord rateRule (C .kindCount)
     eachRecord rowRule (C .rowCount)
 
-pub record Compiled : Type 0 where
-  pub kinds : Kinds
-  pub rows : Rows
+abbrev pub Compiled : Type 0
+Compiled = record { kinds : Kinds; rows : Rows }
 
 unfoldable pub compile : Catalog → Placed Compiled
-compile C = do
-  compiles C
-  given (record { kinds = kindsOf C; rows = rowsOf C })
+compile C = compiles C >> given (record { kinds = kindsOf C; rows = rowsOf C })

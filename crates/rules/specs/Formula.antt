@@ -16,14 +16,13 @@ use Rattle.dimension.specs.declared.dimensions.Dimensions.{Dimensions}
 use Rattle.dimension.specs.declared.grade.ProductOp.{ProductOp}
 use Rattle.dimension.specs.declared.grade.ProductOp.the-variants.{Mul, Div, Dot, Wedge}
 use Rattle.rules.specs.Kinds.{Kinds, Rows}
-use Rattle.rules.specs.Refusal.{Refusal, Answer, NumberTerm}
+use Rattle.rules.specs.Refusal.{Refusal, Answer, NumberTerm, codeOf}
 use Rattle.rules.specs.Arithmetic.{Op, summed, multiplied, opCode, combine, power, scaled, agree, joined, single, indexed, gradeBy}
 
 -- ---- tokens
 pub data Unary : Type 0 where
   exact : Rational → Unary
-  inexact : Unary
-  absolute : Unary
+  inexact absolute : Unary
 
 pub data Binary : Type 0 where
   combined : Op → Binary
@@ -31,24 +30,18 @@ pub data Binary : Type 0 where
 
 -- unreadable: an unknown code, or a field that is not zero
 pub data Token : Type 0 where
-  number : Token
+  number unreadable : Token
   kind : ℕ → Token
   unary : Unary → Token
   binary : Binary → Token
-  unreadable : Token
 
 -- "Exponents: numerator ±2,147,483,647, denominator 1 to 2,147,483,647, reduced first"
 abbrev pub inLimits : Unary → Bool
-inLimits (exact e) = F.within e
-inLimits inexact = true
-inLimits absolute = true
+inLimits u = elim u [ exact e ↦ F.within e | inexact ↦ true | absolute ↦ true ]
 
 -- ---- the walk
-pub record Machine (E A : Type 0) : Type 0 where
-  pub number : A
-  pub kind : ℕ → Out E A
-  pub unary : Unary → A → Out E A
-  pub binary : Binary → A → A → Out E A
+abbrev pub Machine : Type 0 → Type 0 → Type 0
+Machine E A = record { number : A; kind : ℕ → Out E A; unary : Unary → A → Out E A; binary : Binary → A → A → Out E A }
 
 -- one step: a new stack, a refusal, or a token that is malformed there
 pub data Step (E A : Type 0) : Type 0 where
@@ -115,23 +108,21 @@ pub data Term : Type 0 where
 abbrev pub minusOne : Rational
 minusOne = F.ratio (negℤ (pos 1)) 1
 
+-- a number and a kind have a product and a quotient; by Dot and Wedge they are refused for x. The calculation from leaves asks this too
+abbrev pub byNumber : {E A : Type 0} → ProductOp → Out E A → Out E A → E → Out E A
+byNumber op product quotient x = elim op [ Mul ↦ product | Div ↦ quotient | Dot ↦ refused x | Wedge ↦ refused x ]
+
 -- a kind with a number, on either side; `quotient` is what their quotient is
 unfoldable pub withNumber : Kinds → Binary → ℕ → Answer ℕ → Answer ℕ
-withNumber K (combined (multiplied Mul)) k quotient = scaled K 4 k
-withNumber K (combined (multiplied Div)) k quotient = quotient
-withNumber K (combined (multiplied Dot)) k quotient = refused (NumberTerm 6 k)
-withNumber K (combined (multiplied Wedge)) k quotient = refused (NumberTerm 7 k)
+withNumber K (combined (multiplied op)) k quotient = byNumber op (scaled K 4 k) quotient (NumberTerm (codeOf op) k)
 withNumber K (combined (summed s)) k quotient = refused (NumberTerm (opCode (summed s)) k)
 withNumber K compared k quotient = refused (NumberTerm 11 k)
 
 unfoldable pub twoKinds : Kinds → Rows → Binary → ℕ → ℕ → Answer ℕ
-twoKinds K rows (combined op) l r = combine K rows op l r
-twoKinds K rows compared l r = agree l r l
+twoKinds K rows b l r = elim b [ combined op ↦ combine K rows op l r | compared ↦ agree l r l ]
 
 unfoldable pub oneKind : Kinds → Unary → ℕ → Answer ℕ
-oneKind K (exact e) k = power K 8 k (some e)
-oneKind K inexact k = power K 9 k none
-oneKind K absolute k = scaled K 10 k
+oneKind K u k = elim u [ exact e ↦ power K 8 k (some e) | inexact ↦ power K 9 k none | absolute ↦ scaled K 10 k ]
 
 unfoldable pub binaryTerm : Kinds → Rows → Binary → Term → Term → Answer Term
 binaryTerm K rows b Number Number = given Number
@@ -140,14 +131,11 @@ binaryTerm K rows b (Kind k) Number = mapped Kind (withNumber K b k (scaled K 5 
 binaryTerm K rows b Number (Kind k) = mapped Kind (withNumber K b k (power K 5 k (some minusOne)))
 
 unfoldable pub unaryTerm : Kinds → Unary → Term → Answer Term
-unaryTerm K u Number = given Number
-unaryTerm K u (Kind k) = mapped Kind (oneKind K u k)
+unaryTerm K u t = elim t [ Number ↦ given Number | Kind k ↦ mapped Kind (oneKind K u k) ]
 
 -- 41
 unfoldable pub kindTerm : Kinds → ℕ → Answer Term
-kindTerm K k = do
-  indexed K k
-  given (Kind k)
+kindTerm K k = indexed K k >> given (Kind k)
 
 unfoldable pub terms : Kinds → Rows → Machine Refusal Term
 terms K rows = record { number = Number; kind = kindTerm K; unary = unaryTerm K; binary = binaryTerm K rows }
@@ -163,14 +151,11 @@ pub data Meaning : Type 0 where
 
 -- "a number is a number; a kind has its dimensions (or none) and grade"
 abbrev pub meaning : Kinds → Term → Meaning
-meaning K Number = plain
-meaning K (Kind k) = of (K .dims k) (K .grade k)
+meaning K t = elim t [ Number ↦ plain | Kind k ↦ of (K .dims k) (K .grade k) ]
 
 -- "products add or subtract exponents"
 abbrev pub both : ProductOp → Option Dimensions → Option Dimensions → Option Dimensions
-both op (some a) (some b) = some (joined op a b)
-both op (some a) none = none
-both op none o = none
+both op a b = found a (λ x. found b (λ y. some (joined op x y)) none) none
 
 -- "power multiplies exponents, its grade scalar unless the exponent is one"
 abbrev pub powered : Rational → Option Dimensions → ℕ → Meaning
@@ -180,14 +165,8 @@ powered e a g = cond (F.isOne e) (of a g) (of (found a (λ d. some (D.power d e 
 unfoldable pub productOf : Kinds → ProductOp → Meaning → Meaning → Out (Unit {0}) Meaning
 productOf K op plain plain = given plain
 productOf K op (of a g) (of b h) = mapped (of (both op a b)) (single (gradeBy K op g h) tt)
-productOf K Mul (of a g) plain = given (of a g)
-productOf K Div (of a g) plain = given (of a g)
-productOf K Dot (of a g) plain = refused tt
-productOf K Wedge (of a g) plain = refused tt
-productOf K Mul plain (of b h) = given (of b h)
-productOf K Div plain (of b h) = given (powered minusOne b h)
-productOf K Dot plain (of b h) = refused tt
-productOf K Wedge plain (of b h) = refused tt
+productOf K op (of a g) plain = byNumber op (given (of a g)) (given (of a g)) tt
+productOf K op plain (of b h) = byNumber op (given (of b h)) (given (powered minusOne b h)) tt
 
 -- "sum and compare take the left's"
 unfoldable pub binaryOf : Kinds → Binary → Meaning → Meaning → Out (Unit {0}) Meaning
@@ -197,11 +176,10 @@ binaryOf K compared m n = given m
 
 -- "absolute keep"
 unfoldable pub unaryOf : Unary → Meaning → Out (Unit {0}) Meaning
-unaryOf (exact e) plain = given plain
+unaryOf u plain = given plain
 unaryOf (exact e) (of a g) = given (powered e a g)
-unaryOf inexact plain = given plain
 unaryOf inexact (of a g) = refused tt
-unaryOf absolute m = given m
+unaryOf absolute (of a g) = given (of a g)
 
 unfoldable pub meanings : Kinds → Machine (Unit {0}) Meaning
 meanings K = record { number = plain; kind = λ k. given (meaning K (Kind k)); unary = unaryOf; binary = binaryOf K }

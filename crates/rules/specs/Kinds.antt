@@ -26,10 +26,7 @@ pub record Kinds : Type 0 where
 
 -- "operation at 96 (0 Mul, 1 Div, 2 Dot, 3 Wedge)", in the image and in the table
 abbrev pub opWord : ProductOp → ℕ
-opWord Mul = 0
-opWord Div = 1
-opWord Dot = 2
-opWord Wedge = 3
+opWord op = elim op [ Mul ↦ 0 | Div ↦ 1 | Dot ↦ 2 | Wedge ↦ 3 ]
 
 unfoldable pub opOf : ℕ → ProductOp
 opOf n = getD (Mul ∷ Div ∷ Dot ∷ []) n Wedge
@@ -50,9 +47,8 @@ abbrev pub duration : Kinds → Option ℕ
 duration K = found (K .time) (K .difference) none
 
 -- dimensions at a grade: what a product has, before any kind is chosen
-pub record Graded : Type 0 where
-  pub dims : Dimensions
-  pub grade : ℕ
+abbrev pub Graded : Type 0
+Graded = record { dims : Dimensions; grade : ℕ }
 
 -- "a kind carries both if its record gives exactly these"
 unfoldable pub carries : Kinds → Graded → ℕ → Bool

@@ -19,12 +19,9 @@ rowCount s = le2 s 10
 abbrev pub kindBlocks : List ℕ → ℕ
 kindBlocks s = (kindCount s + 2) / 3
 
-abbrev pub rowBlocks : List ℕ → ℕ
-rowBlocks s = (rowCount s + 4) / 5
-
 -- the blocks that the counts give
 abbrev pub blocksBy : List ℕ → ℕ
-blocksBy s = 1 + kindBlocks s + rowBlocks s
+blocksBy s = 1 + kindBlocks s + (rowCount s + 4) / 5
 
 -- "Unnamed bytes are zero."
 unfoldable pub filled : List ℕ → ℕ → Bool
@@ -45,8 +42,7 @@ headerWrong s i =
     (within 2 2 i && filled s i)
     || (eqb i 8 && (ltb 240 (kindCount s) || not (eqb (length s) (512 * blocksBy s))))
     || (eqb i 10 && ltb 200 (rowCount s))
-    || idWrong s 12 i
-    || idWrong s 44 i
+    || idWrong s 12 i || idWrong s 44 i
     || (within 76 432 i && filled s i)
 
 -- the three ids with which a record begins, a kind's or a row's
@@ -64,34 +60,28 @@ exponentWrong s p i =
 -- "Kind, 148 bytes from byte 4: .., grade 0 to 3 at 145"
 unfoldable pub kindWrong : List ℕ → ℕ → ℕ → Bool
 kindWrong s p i =
-    idsWrong s p i
-    || exponentWrong s p i
-    || (eqb i (p + 144) && ltb 1 (byte s i))
-    || (eqb i (p + 145) && ltb 3 (byte s i))
+    idsWrong s p i || exponentWrong s p i
+    || (eqb i (p + 144) && ltb 1 (byte s i)) || (eqb i (p + 145) && ltb 3 (byte s i))
     || (leb (p + 146) i && filled s i)
 
 -- "Row, 100 bytes: left, right, result ids at 0, 32, 64; operation at 96 (0 Mul, 1 Div, 2 Dot, 3 Wedge); commutative 0 or 1 at 97."
 unfoldable pub rowWrong : List ℕ → ℕ → ℕ → Bool
 rowWrong s p i =
     idsWrong s p i
-    || (eqb i (p + 96) && ltb 3 (byte s i))
-    || (eqb i (p + 97) && ltb 1 (byte s i))
+    || (eqb i (p + 96) && ltb 3 (byte s i)) || (eqb i (p + 97) && ltb 1 (byte s i))
     || (leb (p + 98) i && filled s i)
 
 -- "Byte 2: 0 header, 1 kinds, 2 rows. Byte 3: records in the block." "only the last of a type may be short"
 unfoldable pub blockHeadWrong : List ℕ → ℕ → ℕ → ℕ → Bool
 blockHeadWrong s type held i = (eqb (i % 512) 2 && not (eqb (byte s i) type)) || (eqb (i % 512) 3 && not (eqb (byte s i) held))
 
--- past the records of a block all is unnamed but the sum
-unfoldable pub spareWrong : List ℕ → ℕ → Bool
-spareWrong s i = ltb (i % 512) 508 && filled s i
-
--- a block of a type, of records of so many bytes, m to a block, n in all, that begins with record `from`
+-- a block of a type, of records of so many bytes, m to a block, n in all, that begins with record `from`; past its records all is unnamed but
+-- the sum
 unfoldable pub blockWrong : (List ℕ → ℕ → ℕ → Bool) → ℕ → ℕ → ℕ → ℕ → ℕ → List ℕ → ℕ → Bool
 blockWrong recordWrong type bytes m n from s i =
     cond (ltb (i % 512) 4) (blockHeadWrong s type (min m (n - from)) i)
     (cond (ltb (i % 512) (4 + m * bytes) && ltb (from + (i % 512 - 4) / bytes) n) (recordWrong s (i - (i % 512 - 4) % bytes) i)
-    (spareWrong s i))
+    (ltb (i % 512) 508 && filled s i))
 
 -- the header, then the kind blocks, then the row blocks
 unfoldable pub byteWrong : List ℕ → ℕ → Bool

@@ -4,23 +4,19 @@ use Prim.Native.Nat.{ℕ}
 use mathlib.Core.Bool.{not, _&&_}
 use mathlib.Core.List.{List, []}
 use mathlib.Core.Option.{Option, some, none}
-use lib.Dec.{ltb}
 use lib.IntN.{ℤ}
 use lib.ListN.{length}
 use Rattle.laws.specs.Out.{given, refused, _>>=_, _>>_, refuseIf, needed}
 use Rattle.dimension.specs.Fraction as F
 use Rattle.dimension.specs.declared.rational.Rational.{Rational}
-use Rattle.dimension.specs.declared.rational.Ratio.{Ratio}
 use Rattle.dimension.specs.declared.rational.Ratio.the-variants.{Is, Over}
-use Rattle.rules.specs.Refusal.{Answer, Placed, at, Short, NoTable, Malformed}
+use Rattle.rules.specs.Refusal.{Answer, Placed, at, NoTable, Malformed}
 use Rattle.rules.specs.Arithmetic as rule
-use Rattle.rules.specs.Table.{tableSize, kindsOf, rowsOf, isTable, areRows}
+use Rattle.rules.specs.Table.{tableSize, roomFor, kindsOf, rowsOf, isTable, areRows}
 
 -- "table under 9,296 32-bit words, or twin list under 240 16-bit": 5, "length lent, the table's first"
 unfoldable pub roomy : List ℕ → List ℕ → Answer (Unit {0})
-roomy table twins = do
-  refuseIf (ltb (length table) tableSize) (Short (length table))
-  refuseIf (ltb (length twins) 240) (Short (length twins))
+roomy table twins = roomFor tableSize (length table) >> roomFor 240 (length twins)
 
 -- 40
 unfoldable pub tabled : List ℕ → List ℕ → Answer (Unit {0})
@@ -40,18 +36,13 @@ pub data Exponent : Type 0 where
   exact : ℤ → ℕ → Exponent
   inexact : Exponent
 
-abbrev pub limited : Ratio → Answer (Option Rational)
-limited (Is e) = given (some e)
-limited Over = refused (Malformed 0)
-
 abbrev pub exponent : Exponent → Answer (Option Rational)
-exponent (exact n d) = limited (F.answer n d)
+exponent (exact n d) = elim (F.answer n d) [ Is e ↦ given (some e) | Over ↦ refused (Malformed 0) ]
 exponent inexact = given none
 
--- the code of an exact power's token is 8, of an inexact one's 9
+-- "8 exact power, 9 inexact power"
 abbrev pub powerCode : Exponent → ℕ
-powerCode (exact n d) = 8
-powerCode inexact = 9
+powerCode x = elim x [ exact n d ↦ 8 | inexact ↦ 9 ]
 
 unfoldable pub power : List ℕ → List ℕ → ℕ → Exponent → Placed ℕ
 power table twins k x = at 0 (do

@@ -43,11 +43,8 @@ abbrev pub absent : ℕ
 absent = 65535
 
 -- 01's table. Dimensions, where they are returned, come before the values; the twins are what the twin list's first entries become
-pub record Told : Type 0 where
-  pub number : ℕ
-  pub dims : Option Dimensions
-  pub values : List ℕ
-  pub twins : List ℕ
+abbrev pub Told : Type 0
+Told = record { number : ℕ; dims : Option Dimensions; values : List ℕ; twins : List ℕ }
 
 abbrev says : ℕ → List ℕ → Told
 says n vs = record { number = n; dims = none; values = vs; twins = [] }
@@ -100,19 +97,15 @@ abbrev pub Answer : Type 0 → Type 0
 Answer A = Out Refusal A
 
 -- "Every refusal carries its place, from 0"
-pub record Fault : Type 0 where
-  pub place : ℕ
-  pub refusal : Refusal
+abbrev pub Fault : Type 0
+Fault = record { place : ℕ; refusal : Refusal }
 
 abbrev pub Placed : Type 0 → Type 0
 Placed A = Out Fault A
 
-module _ {A : Type 0} where
-  abbrev pub at : ℕ → Answer A → Placed A
-  at p (given a) = given a
-  at p (refused x) = refused (record { place = p; refusal = x })
+abbrev pub at : {A : Type 0} → ℕ → Answer A → Placed A
+at p m = elim m [ given a ↦ given a | refused x ↦ refused (record { place = p; refusal = x }) ]
 
-  -- what the twin list then holds: "all but the first count twin entries" stay
-  unfoldable pub twinsAfter : Placed A → List ℕ → List ℕ
-  twinsAfter (given a) old = old
-  twinsAfter (refused x) old = overlay (told (x .refusal) .twins) old
+-- what the twin list then holds: "all but the first count twin entries" stay
+unfoldable pub twinsAfter : {A : Type 0} → Placed A → List ℕ → List ℕ
+twinsAfter m old = elim m [ given a ↦ old | refused x ↦ overlay (told (x .refusal) .twins) old ]

@@ -5,7 +5,7 @@ use mathlib.Core.List.{List, [], _∷_, _++_}
 use lib.Dec.{ltb}
 use lib.ListN.{take, drop}
 use Rattle.laws.specs.Options.{found}
-use Rattle.laws.specs.Out.{given, refused, _>>=_, _>>_}
+use Rattle.laws.specs.Out.{given, refused, _>>=_}
 use Rattle.laws.specs.Ranges.{first}
 use Rattle.rules.specs.Refusal.{Placed, told}
 use Rattle.rules.specs.Layout.{kindCount, blocksBy, filled}
@@ -25,8 +25,7 @@ kindPart image k = elim (imageCheck image) [ given u ↦ cond (ltb k (kindCount 
 
 -- "The report prints the kind's id or the caller's own word for a number .. padding left off; the word comes back whole."
 unfoldable pub report : List ℕ → List ℕ → Term → List ℕ
-report image word Number = word
-report image word (Kind k) = kindPart image k
+report image word t = elim t [ Number ↦ word | Kind k ↦ kindPart image k ]
 
 -- ---- kindcheck
 -- "the header's counts give the image's length, 121 blocks at most, and short input leaves the formula empty"
@@ -55,9 +54,7 @@ line image (refused x) = (114 ∷ 101 ∷ 102 ∷ 117 ∷ 115 ∷ 101 ∷ 100 �
 
 -- the image is compiled into a table of the program's own, so 5 and 40 don't arise
 unfoldable pub checked : List ℕ → List ℕ → Placed Term
-checked image bytes = do
-  C ← compileImage image tableSize
-  formulaIn (C .kinds) (C .rows) bytes
+checked image bytes = compileImage image tableSize >>= λ C. formulaIn (C .kinds) (C .rows) bytes
 
 unfoldable pub kindcheck : List ℕ → List ℕ
 kindcheck input = line (imagePart input) (checked (imagePart input) (formulaPart input))

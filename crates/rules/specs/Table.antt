@@ -7,6 +7,7 @@ use mathlib.Core.Option.{Option, some, none}
 use lib.Dec.{eqb, ltb, leb}
 use lib.ListN.{length, getD, take, drop}
 use Rattle.laws.specs.Options.{found, isSome}
+use Rattle.laws.specs.Out.{refuseIf}
 use Rattle.laws.specs.Ranges.{first, all, tab, below}
 use Rattle.dimension.specs.Integer as I
 use Rattle.dimension.specs.Fraction as F
@@ -15,7 +16,7 @@ use Rattle.dimension.specs.declared.rational.Rational.{Rational}
 use Rattle.dimension.specs.declared.dimensions.Dimensions.{Dimensions}
 use Rattle.dimension.specs.declared.grade.ProductOp.{ProductOp}
 use Rattle.rules.specs.Kinds.{Kinds, Rows, opWord}
-use Rattle.rules.specs.Refusal.{absent}
+use Rattle.rules.specs.Refusal.{Answer, Short, absent}
 use Rattle.rules.specs.Catalog.{Catalog, Row, find, link, differenceOf, targetOf, rateAmong, role}
 
 -- ---- places
@@ -32,6 +33,10 @@ rowPlace i = 16 + 240 * 32 + 4 * i
 -- "the table's first 9,296 words"
 abbrev pub tableSize : ℕ
 tableSize = rowPlace 400
+
+-- 5, returning the "length lent": n is to be no less than the size
+abbrev pub roomFor : ℕ → ℕ → Answer (Unit {0})
+roomFor size n = refuseIf (ltb n size) (Short n)
 
 -- ---- what the words are read as
 -- the kind count; no table has more kinds, and no more are ever read

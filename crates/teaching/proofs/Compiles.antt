@@ -1,5 +1,5 @@
 -- The teaching catalog's image compiles to the kinds that 01 lists, and no rows. Assumes nothing.
-use Prim.Native.Nat.{ℕ, zero, suc, _+_, _<_, _≤_}
+use Prim.Native.Nat.{ℕ, zero, suc, _+_, _/_, _<_, _≤_}
 use mathlib.Core.Path.{_≡_, refl, sym, _∙_, ap, fun-ext}
 use mathlib.Core.Bool.{Bool, true, false}
 use mathlib.Core.List.{List, [], _∷_, zipWith}
@@ -17,25 +17,25 @@ use Rattle.dimension.specs.Dimension as D
 use Rattle.rules.specs.Kinds.{carries}
 use Rattle.rules.specs.Arithmetic.{operand}
 use Rattle.rules.specs.Bytes.{le2, le4, blockSum}
-use Rattle.rules.specs.Layout.{filled, idWrong, headerWrong, idsWrong, exponentWrong, kindWrong, rowWrong, blockHeadWrong, spareWrong, blockWrong, byteWrong}
+use Rattle.rules.specs.Layout.{filled, idWrong, headerWrong, idsWrong, exponentWrong, kindWrong, rowWrong, blockHeadWrong, blockWrong, byteWrong}
 use Rattle.laws.proofs.Below.{below-past}
 use Rattle.rules.specs.Catalog.{noKind, blank, same, idAt, exponentAt, dimsAt, kindFrom, catalogIn, find, link, differenceOf, targetOf, rateAmong, isDifference, role, kindsOf, rowAmong, rowsOf}
 use Rattle.rules.specs.Compile.{Compiled, called, idRule, differenceRule, dimensionlessRule, timeRule, rateRule, compiles, compile}
-use Rattle.rules.specs.Image.{lengthWrong, lengthCheck, roomCheck, sumWrong, blocksCheck, schemaCheck, layoutCheck, readable, lentCheck, compileImage}
+use Rattle.rules.specs.Image.{lengthWrong, lengthCheck, sumWrong, readable, lentCheck, compileImage}
 use Rattle.teaching.specs.Listed.{Listed, unlisted, listed, teaching, noRows}
 use Rattle.teaching.specs.Image.{image}
 
 -- ---- 1 to 4
-pub blocks-right : blocksCheck image ≡ given tt
-unfolding blocksCheck sumWrong blockSum sum le2 le4 first image
+pub blocks-right : first (sumWrong image) (length image / 512) ≡ none
+unfolding sumWrong blockSum sum le2 le4 first image
 blocks-right = refl
 
-pub layout-right : layoutCheck image ≡ given tt
-unfolding layoutCheck byteWrong blockWrong headerWrong kindWrong rowWrong idsWrong idWrong exponentWrong blockHeadWrong spareWrong filled le2 first image
+pub layout-right : first (byteWrong image) (length image) ≡ none
+unfolding byteWrong blockWrong headerWrong kindWrong rowWrong idsWrong idWrong exponentWrong blockHeadWrong filled le2 first image
 layout-right = refl
 
 pub image-readable : readable image ≡ given tt
-unfolding readable schemaCheck le2 le4 image
+unfolding readable le2 le4 image
 image-readable = rw (blocks-right, layout-right)
 
 -- ---- 10 to 27
@@ -113,5 +113,5 @@ abbrev pub compiled : Compiled
 compiled = record { kinds = teaching; rows = noRows }
 
 pub teaches : compileImage image 9296 ≡ given compiled
-unfolding compileImage lentCheck compile lengthCheck lengthWrong roomCheck image
+unfolding compileImage lentCheck compile lengthCheck lengthWrong image
 teaches = rw (image-readable, rules-kept) (ap (λ (C : Compiled). given C) (λ i. record { kinds = kinds-are i; rows = rows-are i }))

@@ -46,7 +46,7 @@ power-wrong = refl
 lateRate : Kinds → Rows → ℕ → ProductOp → ℕ → Answer ℕ
 lateRate K rows l op r = do
   x ← derive K l op r
-  settle (orFitting K (neutral K l op r) x) (NoProductKind x) (λ ks. known (rows l op r) (refused (UnresolvedTwin l op r ks)))
+  settle (orFitting K (neutral K l op r) x) (refused (NoProductKind x)) given (λ ks. known (rows l op r) (refused (UnresolvedTwin l op r ks)))
 
 rate-right : product teaching noRows 2 Mul 4 ≡ given 1
 unfolding teaching listed product derive operand graded gradeBy joined neutral neutralBy rated ratedBy resolve fits carries picked D.product D.outcome D.equal G.product F.sum F.answer F.limited F.within F.lowest F.equal gcd euclid zipWith

@@ -11,7 +11,7 @@ whole-words-requires c κs = both-asked _ _ _ (c .before .before .before .is-who
 
 returns : tie.Need-returns
 returns c =
-    (joined-whole _ _ _ (c .before .before .before .before .is-whole .ensures) (c .before .before .before .is-whole2 .ensures) (c .before .before .if1 .taken) _ (c .before .is-div .ensures) (c .whole-words .ensures .0), c .whole-words .ensures .1)
+    (joined-whole _ _ _ (c .before .before .before .before .is-whole .ensures) (c .before .before .before .is-whole2 .ensures) (c .before .before .if1 .taken) _ (c .before .is-quotient .ensures) (c .whole-words .ensures .0), c .whole-words .ensures .1)
 
 returns-2 : tie.Need-returns-2
 returns-2 c =
