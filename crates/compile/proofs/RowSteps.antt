@@ -9,7 +9,6 @@ use Rattle.laws.specs.Out.{given, refused}
 use Rattle.laws.proofs.Cases.{and-left, and-right}
 use Rattle.dimension.specs.Dimension as D
 use Rattle.dimension.specs.declared.dimensions.Dimensions.{Dimensions}
-use Rattle.dimension.specs.declared.grade.ProductOp.{ProductOp}
 use Rattle.dimension.specs.declared.grade.ProductOp.the-variants.{Div}
 use Rattle.rules.specs.Kinds.{Kinds, Rows, Graded, sameOp, point, carries}
 use Rattle.rules.specs.Refusal.{InvalidOperationRule, codeOf, told}

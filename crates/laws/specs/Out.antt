@@ -1,5 +1,5 @@
--- What a rule gives, or why it is refused. Rules that follow one another are written with `do`: the order of the lines is the order of the
--- refusals, and the first that refuses is the answer.
+-- What a rule gives, or why it is refused. Rules that follow one another are written with `do`, or joined by `>>`: the order of the lines, or
+-- along `>>`, is the order of the refusals, and the first that refuses is the answer.
 use Prim.Native.Nat.{ℕ, zero, suc}
 use mathlib.Core.Bool.{Bool, true, false}
 use mathlib.Core.Option.{Option, some, none}

@@ -1,4 +1,4 @@
--- 01, 'Products, sums and powers': each in 01's order, the order of the lines.
+-- 01, 'Products, sums and powers': each in 01's order, line by line or along `>>`.
 use Prim.Native.Nat.{ℕ}
 use mathlib.Core.Bool.{cond, not, _||_}
 use mathlib.Core.List.{List, [], _∷_, map}
@@ -17,7 +17,7 @@ use Rattle.dimension.specs.declared.grade.ProductOp.the-variants.{Mul, Div, Dot
 use Rattle.dimension.specs.declared.grade.Grade.{Grade}
 use Rattle.dimension.specs.declared.grade.Grade.the-variants.{Single, Absent}
 use Rattle.rules.specs.Kinds.{Kinds, Rows, Graded, sameOp, point, duration, candidates}
-use Rattle.rules.specs.Refusal.{Answer, Refusal, UnresolvedDimensions, Point, Ungraded, PowerOverLimits, NoKind, KindMismatch, UnsupportedOperation, UnresolvedTwin, NoProductKind, UngradedPower, NoPowerKind, UnresolvedPowerTwin, absent, codeOf}
+use Rattle.rules.specs.Refusal.{Answer, UnresolvedDimensions, Point, Ungraded, PowerOverLimits, NoKind, KindMismatch, UnsupportedOperation, UnresolvedTwin, NoProductKind, UngradedPower, NoPowerKind, UnresolvedPowerTwin, absent, codeOf}
 
 -- 41: "kind index past the end"
 unfoldable pub indexed : Kinds → ℕ → Answer (Unit {0})
@@ -31,7 +31,7 @@ operand K k = needed (K .dims k) (UnresolvedDimensions k)
 abbrev pub single : {E : Type 0} → Grade → E → Out E ℕ
 single g x = elim g [ Single a ↦ given a | Absent ↦ refused x ]
 
--- the grade rule of this catalog
+-- the grade rule, the same for every catalog
 unfoldable pub gradeBy : Kinds → ProductOp → ℕ → ℕ → Grade
 gradeBy K op a b = G.product op a b
 
@@ -76,14 +76,15 @@ rated K l op r = found (duration K) (λ d. ratedBy K op d l r) none
 abbrev pub orFitting : Kinds → Option ℕ → Graded → List ℕ
 orFitting K o x = found o (λ k. k ∷ []) (candidates K x)
 
+-- the dimensionless kind, then the rate, and only then what fits
 unfoldable pub resolve : Kinds → ℕ → ProductOp → ℕ → Graded → List ℕ
 resolve K l op r x = orFitting K (orElse (neutral K l op r) (rated K l op r)) x
 
 -- "then one fitting non-point kind is the answer, none is 45, several need the row": what is said where there is none, one, or several
 abbrev pub settle : {A : Type 0} → List ℕ → A → (ℕ → A) → (List ℕ → A) → A
-settle [] nothing one several = nothing
-settle (k ∷ []) nothing one several = one k
-settle (k ∷ m ∷ ks) nothing one several = several (k ∷ m ∷ ks)
+settle [] nothing one many = nothing
+settle (k ∷ []) nothing one many = one k
+settle (k ∷ m ∷ ks) nothing one many = many (k ∷ m ∷ ks)
 
 -- "The answer reads, of all rows, only that of this very left, operation and right."
 unfoldable pub product : Kinds → Rows → ℕ → ProductOp → ℕ → Answer ℕ
@@ -100,7 +101,8 @@ abbrev pub agree : ℕ → ℕ → ℕ → Answer ℕ
 agree expected actual k = cond (eqb expected actual) (given k) (refused (KindMismatch expected actual))
 
 -- "Sum: point − same point gives the difference; point ± its difference gives the point; difference + point likewise; equal non-points give
--- themselves." By the differences of left and right, which points alone have
+-- themselves." By the differences of left and right, which points alone have. Otherwise as the Rust's `Kind::sum`: 43 for point + point and for
+-- non-point − point, else 42
 unfoldable pub sumBy : Sum → Option ℕ → Option ℕ → ℕ → ℕ → Answer ℕ
 sumBy Sub (some d) (some e) l r = agree l r d
 sumBy Add (some d) (some e) l r = refused (UnsupportedOperation 2 l r)
@@ -130,7 +132,8 @@ raised K k e = do
   d ← given (D.power a e .value)
   settle (orFitting K (neutralPower K k e) (record { dims = d; grade = 0 })) (refused (NoPowerKind d)) given (λ ks. refused (UnresolvedPowerTwin k e ks))
 
--- "Power: 43 (point or inexact), exponent one gives the kind". No exponent: an inexact one; the code is the token's
+-- "Power: 43 (point or inexact), exponent one gives the kind". No exponent: an inexact one; the code is the token's. A point is refused as in
+-- a scaling
 unfoldable pub power : Kinds → ℕ → ℕ → Option Rational → Answer ℕ
 power K code k none = refused (UnsupportedOperation code k absent)
 power K code k (some e) = scaled K code k >> cond (F.isOne e) (given k) (raised K k e)

@@ -55,7 +55,7 @@ orZero r = elim r [ Is e ↦ e | Over ↦ F.zero ]
 unfoldable pub exponentAt : List ℕ → ℕ → Rational
 exponentAt s p = orZero (F.answer (I.twos 32768 (le2 s p)) (le2 s (p + 2)))
 
--- "flag at 144 (1 dimensions given; 0 unresolved)"
+-- "flag at 144 (1 dimensions given; 0 unresolved, ..)"
 unfoldable pub dimsAt : List ℕ → ℕ → Option Dimensions
 dimsAt s p = cond (eqb (byte s (p + 144)) 1) (some (D.dimensions (tab (λ b. exponentAt s (p + 96 + 4 * b)) 12))) none
 
@@ -131,10 +131,11 @@ module _ (C : Catalog) where
     time = link (C .time);
   }
 
-  -- the row is one for left, operation and right: "a commutative row is also one for the turned pair"
+  -- the row's ids name l and r
   unfoldable pub names : ℕ → ℕ → Row → Bool
   names l r x = meant l (find (x .left)) && meant r (find (x .right))
 
+  -- the row is one for left, operation and right: "a commutative row is also one for the turned pair"
   unfoldable pub covers : ℕ → ProductOp → ℕ → Row → Bool
   covers l op r x = sameOp (x .op) op && (names l r x || (x .commutative && names r l x))
 

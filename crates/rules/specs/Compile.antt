@@ -23,7 +23,7 @@ Checked = Answer (Unit {0})
 abbrev pub ifDeclared : Id → Checked → Checked
 ifDeclared id rule = cond (blank id) (given tt) rule
 
--- 13, "also where just one of the two is unresolved"
+-- 13, "also where just one of the two is unresolved"; two unresolved kinds are alike
 abbrev pub sameDims : Option Dimensions → Option Dimensions → Bool
 sameDims a b = found a (λ x. found b (D.equal x) false) (not (isSome b))
 
@@ -74,7 +74,7 @@ module _ (C : Catalog) where
     refuseIf (not (carries K x t)) (RateMismatch x)
     refuseFound (rateAmong C k t) AlsoRateOf)
 
-  -- 25, 26: "it is accepted only where several kinds fit and it names one of them"
+  -- 26: "it is accepted only where several kinds fit"; 25 where none does. That "it names one of them" is asked before
   abbrev pub several : List ℕ → Graded → Checked
   several ks x = settle ks (refused (InvalidOperationRule x)) (λ k. refused (DerivedOperationRule k)) (λ more. given tt)
 

@@ -28,7 +28,7 @@ pub data Binary : Type 0 where
   combined : Op → Binary
   compared : Binary
 
--- unreadable: an unknown code, or a field that is not zero
+-- unreadable: an unknown code, or a field that is not zero though the code doesn't use it
 pub data Token : Type 0 where
   number unreadable : Token
   kind : ℕ → Token
@@ -174,7 +174,7 @@ binaryOf K (combined (summed s)) m n = given m
 binaryOf K (combined (multiplied op)) m n = productOf K op m n
 binaryOf K compared m n = given m
 
--- "absolute keep"
+-- "scaling (by a number) and absolute keep"; an inexact power of a kind has no meaning
 unfoldable pub unaryOf : Unary → Meaning → Out (Unit {0}) Meaning
 unaryOf u plain = given plain
 unaryOf (exact e) (of a g) = given (powered e a g)

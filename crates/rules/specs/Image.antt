@@ -25,7 +25,7 @@ lengthCheck s = at 0 (refuseIf (lengthWrong s) (ImageLength (length s)))
 abbrev pub refuseFirst : (ℕ → Bool) → ℕ → (ℕ → Refusal) → Placed (Unit {0})
 refuseFirst wrong n x = found (first wrong n) (λ i. refused (record { place = i; refusal = x i })) (given tt)
 
--- 2: "Bytes 0-1: block's place from 0"; "Bytes 508-511: the sum"
+-- 2, "block place or sum wrong": "Bytes 0-1: block's place from 0"; "Bytes 508-511: the sum"
 unfoldable pub sumWrong : List ℕ → ℕ → Bool
 sumWrong s b = not (eqb (le2 s (b * 512)) b) || not (eqb (le4 s (b * 512 + 508)) (blockSum s b))
 

@@ -28,6 +28,7 @@ pub record Kinds : Type 0 where
 abbrev pub opWord : ProductOp → ℕ
 opWord op = elim op [ Mul ↦ 0 | Div ↦ 1 | Dot ↦ 2 | Wedge ↦ 3 ]
 
+-- the image's operation; what is above 3, which 4 refuses first, reads as Wedge
 unfoldable pub opOf : ℕ → ProductOp
 opOf n = getD (Mul ∷ Div ∷ Dot ∷ []) n Wedge
 

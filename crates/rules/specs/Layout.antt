@@ -23,7 +23,7 @@ kindBlocks s = (kindCount s + 2) / 3
 abbrev pub blocksBy : List ℕ → ℕ
 blocksBy s = 1 + kindBlocks s + (rowCount s + 4) / 5
 
--- "Unnamed bytes are zero."
+-- byte i is not zero. "Unnamed bytes are zero."
 unfoldable pub filled : List ℕ → ℕ → Bool
 filled s i = not (eqb (byte s i) 0)
 

@@ -44,6 +44,7 @@ exponent inexact = given none
 abbrev pub powerCode : Exponent → ℕ
 powerCode x = elim x [ exact n d ↦ 8 | inexact ↦ 9 ]
 
+-- a power reads no rows
 unfoldable pub power : List ℕ → List ℕ → ℕ → Exponent → Placed ℕ
 power table twins k x = at 0 (do
   roomy table twins

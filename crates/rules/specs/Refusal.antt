@@ -18,7 +18,7 @@ pub data Refusal : Type 0 where
   AffineDimensionMismatch NestedAffineSpace NoTimeKind ConflictingOperationRule : ℕ → ℕ → Refusal
   PointRate : ℕ → ℕ → ℕ → Refusal
   RateMismatch InvalidOperationRule : Graded → Refusal
-  -- what two kinds or one are derived as
+  -- products and powers
   UnresolvedDimensions : ℕ → Refusal
   Point : ℕ → ProductOp → ℕ → ℕ → Refusal
   Ungraded : ℕ → ℕ → ℕ → ℕ → Refusal

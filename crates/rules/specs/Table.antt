@@ -34,7 +34,7 @@ rowPlace i = 16 + 240 * 32 + 4 * i
 abbrev pub tableSize : ℕ
 tableSize = rowPlace 400
 
--- 5, returning the "length lent": n is to be no less than the size
+-- 5: a buffer of length n is too short for this size
 abbrev pub roomFor : ℕ → ℕ → Answer (Unit {0})
 roomFor size n = refuseIf (ltb n size) (Short n)
 

@@ -1,7 +1,6 @@
 -- `joined::words::joined_words` meets its contract.
 -- Assumes nothing.
 use borrow.Author.Needs.{needs}
-use mathlib.Core.Path.{_≡_, sym, _∙_}
 use Rattle.joined.proofs.Sums.{both-asked, joined-whole, joined-plain}
 use Rattle.joined.proofs.words.joined_words.Statement.{statement}
 use Rattle.joined.proofs.words.joined_words.Tie as tie
