@@ -35,6 +35,7 @@ single g x = elim g [ Single a ↦ given a | Absent ↦ refused x ]
 unfoldable pub gradeBy : Kinds → ProductOp → ℕ → ℕ → Grade
 gradeBy K op a b = G.product op a b
 
+-- 24, returning the "kinds, grades"
 unfoldable pub graded : Kinds → ℕ → ProductOp → ℕ → Answer ℕ
 graded K l op r = single (gradeBy K op (K .grade l) (K .grade r)) (Ungraded l r (K .grade l) (K .grade r))
 
@@ -59,6 +60,7 @@ neutralBy Div o l r = cond (eqb r o) (some l) (cond (eqb l r) (some o) none)
 neutralBy Dot o l r = none
 neutralBy Wedge o l r = none
 
+-- nothing is neutral where no dimensionless kind is declared
 unfoldable pub neutral : Kinds → ℕ → ProductOp → ℕ → Option ℕ
 neutral K l op r = found (K .dimensionless) (λ o. neutralBy op o l r) none
 
@@ -69,6 +71,7 @@ ratedBy K Div d l r = cond (eqb r d) (K .rate l) none
 ratedBy K Dot d l r = none
 ratedBy K Wedge d l r = none
 
+-- no kind is a rate's target or rate where there is no duration
 unfoldable pub rated : Kinds → ℕ → ProductOp → ℕ → Option ℕ
 rated K l op r = found (duration K) (λ d. ratedBy K op d l r) none
 
@@ -111,6 +114,7 @@ sumBy Add none (some e) l r = agree e l r
 sumBy Sub none (some e) l r = refused (UnsupportedOperation 3 l r)
 sumBy s none none l r = agree l r l
 
+-- a sum of kinds by their differences
 unfoldable pub sum : Kinds → Sum → ℕ → ℕ → Answer ℕ
 sum K s l r = sumBy s (K .difference l) (K .difference r) l r
 
@@ -151,9 +155,11 @@ combine K rows o l r = elim o [ summed s ↦ sum K s l r | multiplied op ↦ pro
 abbrev pub ops : List Op
 ops = summed Add ∷ summed Sub ∷ multiplied Mul ∷ multiplied Div ∷ multiplied Dot ∷ multiplied Wedge ∷ []
 
+-- the operation that a lone lookup names by its token's code: 2 to 7, and none else
 unfoldable pub opBy : ℕ → Option Op
 opBy code = getD (none ∷ none ∷ map some ops) code none
 
+-- and back: the code of an operation's token
 abbrev pub opCode : Op → ℕ
 opCode (summed Add) = 2
 opCode (summed Sub) = 3

@@ -20,6 +20,7 @@ ending (malformed p) = refused (record { place = p; refusal = Malformed p })
 unfoldable pub formulaIn : Kinds → Rows → List ℕ → Placed Term
 formulaIn K rows bytes = ending (cond (goodLength bytes) (formula K rows (tokensIn bytes)) (malformed 0))
 
+-- "Order: 5, 40, 50, then token by token, stopping at the first refusal."
 unfoldable pub call : List ℕ → List ℕ → List ℕ → List ℕ → Placed Term
 call table rows twins bytes = do
   at 0 (roomy table twins)

@@ -27,6 +27,7 @@ unfoldable pub blank : Id → Bool
 blank [] = true
 blank (x ∷ a) = eqb x 0 && blank a
 
+-- the same id
 unfoldable pub same : Id → Id → Bool
 same [] [] = true
 same [] (y ∷ b) = false
@@ -34,12 +35,15 @@ same (x ∷ a) [] = false
 same (x ∷ a) (y ∷ b) = eqb x y && same a b
 
 -- ---- records
+-- "Kind, 148 bytes": what its record declares
 abbrev pub Kind : Type 0
 Kind = record { id : Id; difference : Id; rateOf : Id; dims : Option Dimensions; grade : ℕ }
 
+-- "Row, 100 bytes": likewise
 abbrev pub Row : Type 0
 Row = record { left : Id; right : Id; result : Id; op : ProductOp; commutative : Bool }
 
+-- all that an image declares
 abbrev pub Catalog : Type 0
 Catalog = record { kindCount : ℕ; kind : ℕ → Kind; dimensionless : Id; time : Id; rowCount : ℕ; row : ℕ → Row }
 
@@ -47,6 +51,7 @@ Catalog = record { kindCount : ℕ; kind : ℕ → Kind; dimensionless : Id; tim
 unfoldable pub idAt : List ℕ → ℕ → Id
 idAt s p = tab (λ i. byte s (p + i)) 32
 
+-- an exponent, zero where there is none
 abbrev pub orZero : Ratio → Rational
 orZero r = elim r [ Is e ↦ e | Over ↦ F.zero ]
 
@@ -74,6 +79,7 @@ kindAt k = 512 * (1 + k / 3) + 4 + k % 3 * 148
 abbrev pub rowAt : List ℕ → ℕ → ℕ
 rowAt s r = 512 * (1 + kindBlocks s + r / 5) + 4 + r % 5 * 100
 
+-- past the count nothing is declared
 abbrev pub noKind : Kind
 noKind = record { id = []; difference = []; rateOf = []; dims = none; grade = 0 }
 
@@ -102,6 +108,7 @@ module _ (C : Catalog) where
   unfoldable pub link : Id → Option ℕ
   link id = cond (blank id) none (find id)
 
+  -- what a kind's difference id and rate-of id name
   abbrev pub differenceOf : ℕ → Option ℕ
   differenceOf k = link (C .kind k .difference)
 
@@ -112,6 +119,7 @@ module _ (C : Catalog) where
   unfoldable pub rateAmong : ℕ → ℕ → Option ℕ
   rateAmong n t = first (λ k. meant t (targetOf k)) n
 
+  -- "a kind named as one is a difference"
   unfoldable pub isDifference : ℕ → Bool
   isDifference k = isSome (first (λ j. meant k (differenceOf j)) (C .kindCount))
 
@@ -119,6 +127,7 @@ module _ (C : Catalog) where
   unfoldable pub role : ℕ → ℕ
   role k = cond (isSome (differenceOf k)) 1 (cond (isDifference k) 2 0)
 
+  -- the compiled kinds
   unfoldable pub kindsOf : Kinds
   kindsOf = record {
     count = C .kindCount;
@@ -143,5 +152,6 @@ module _ (C : Catalog) where
   unfoldable pub rowAmong : ℕ → ℕ → ProductOp → ℕ → Option ℕ
   rowAmong n l op r = first (λ i. covers l op r (C .row i)) n
 
+  -- the compiled rows: the result that the row for left, operation and right names
   unfoldable pub rowsOf : Rows
   rowsOf l op r = found (rowAmong (C .rowCount) l op r) (λ i. find (C .row i .result)) none

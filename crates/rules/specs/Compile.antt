@@ -16,6 +16,7 @@ use Rattle.rules.specs.Refusal.{Answer, Placed, at, EmptyId, Duplicate, 
 use Rattle.rules.specs.Arithmetic.{operand, derive, resolve, settle}
 use Rattle.rules.specs.Catalog.{Id, blank, same, Catalog, find, rateAmong, role, kindsOf, rowAmong, rowsOf}
 
+-- a rule that only refuses
 abbrev pub Checked : Type 0
 Checked = Answer (Unit {0})
 
@@ -28,6 +29,7 @@ abbrev pub sameDims : Option Dimensions → Option Dimensions → Bool
 sameDims a b = found a (λ x. found b (D.equal x) false) (not (isSome b))
 
 module _ (C : Catalog) where
+  -- the kinds that the catalog comes to
   abbrev K : Kinds
   K = kindsOf C
 
@@ -102,6 +104,7 @@ module _ (C : Catalog) where
   abbrev pub eachRecord : (ℕ → Checked) → ℕ → Placed (Unit {0})
   eachRecord rule n = each (λ k. at k (rule k)) n
 
+  -- "all ids ..; differences; dimensionless; time; rates in kind order; rows in order"
   unfoldable pub compiles : Placed (Unit {0})
   compiles = do
     eachRecord idRule (C .kindCount)
@@ -111,8 +114,10 @@ module _ (C : Catalog) where
     eachRecord rateRule (C .kindCount)
     eachRecord rowRule (C .rowCount)
 
+-- what a compilation gives
 abbrev pub Compiled : Type 0
 Compiled = record { kinds : Kinds; rows : Rows }
 
+-- the rules of every record, then the kinds and rows
 unfoldable pub compile : Catalog → Placed Compiled
 compile C = compiles C >> given (record { kinds = kindsOf C; rows = rowsOf C })

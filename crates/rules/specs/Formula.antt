@@ -20,10 +20,12 @@ use Rattle.rules.specs.Refusal.{Refusal, Answer, NumberTerm, codeOf}
 use Rattle.rules.specs.Arithmetic.{Op, summed, multiplied, opCode, combine, power, scaled, agree, joined, single, indexed, gradeBy}
 
 -- ---- tokens
+-- "8 exact power, 9 inexact power, 10 absolute"
 pub data Unary : Type 0 where
   exact : Rational → Unary
   inexact absolute : Unary
 
+-- "2 Add, 3 Sub, 4 Mul, 5 Div, 6 Dot, 7 Wedge", "11 compare"
 pub data Binary : Type 0 where
   combined : Op → Binary
   compared : Binary
@@ -40,6 +42,7 @@ abbrev pub inLimits : Unary → Bool
 inLimits u = elim u [ exact e ↦ F.within e | inexact ↦ true | absolute ↦ true ]
 
 -- ---- the walk
+-- what each token does to the terms it takes
 abbrev pub Machine : Type 0 → Type 0 → Type 0
 Machine E A = record { number : A; kind : ℕ → Out E A; unary : Unary → A → Out E A; binary : Binary → A → A → Out E A }
 
@@ -56,6 +59,7 @@ pub data Ended (E A : Type 0) : Type 0 where
   malformed : ℕ → Ended E A
 
 module _ {E A : Type 0} where
+  -- a term given goes on top of the rest
   abbrev pub onto : List A → Out E A → Step E A
   onto s (given a) = on (a ∷ s)
   onto s (refused x) = stop x
@@ -64,10 +68,12 @@ module _ {E A : Type 0} where
   abbrev pub withNone : Out E A → List A → Step E A
   withNone m s = cond (ltb (length s) 32) (onto s m) bad
 
+  -- a step that takes the term on top
   abbrev pub withOne : (A → Out E A) → List A → Step E A
   withOne f [] = bad
   withOne f (a ∷ s) = onto s (f a)
 
+  -- a step that takes two: "in postfix order" the right one is on top
   abbrev pub withTwo : (A → A → Out E A) → List A → Step E A
   withTwo f [] = bad
   withTwo f (b ∷ []) = bad
@@ -80,6 +86,7 @@ module _ {E A : Type 0} where
   last n (b ∷ a ∷ s) = malformed n
 
 module _ {E A : Type 0} (M : Machine E A) where
+  -- a token by the terms that it takes
   abbrev pub step : Token → List A → Step E A
   step number s = withNone (given (M .number)) s
   step (kind k) s = withNone (M .kind k) s
@@ -105,6 +112,7 @@ pub data Term : Type 0 where
   Number : Term
   Kind : ℕ → Term
 
+-- "number / kind is power −1"
 abbrev pub minusOne : Rational
 minusOne = F.ratio (negℤ (pos 1)) 1
 
@@ -118,18 +126,22 @@ withNumber K (combined (multiplied op)) k quotient = byNumber op (scaled K 4 k) 
 withNumber K (combined (summed s)) k quotient = refused (NumberTerm (opCode (summed s)) k)
 withNumber K compared k quotient = refused (NumberTerm 11 k)
 
+-- `Term::combine` and `same` of two kinds: "compare leaves the left kind"
 unfoldable pub twoKinds : Kinds → Rows → Binary → ℕ → ℕ → Answer ℕ
 twoKinds K rows b l r = elim b [ combined op ↦ combine K rows op l r | compared ↦ agree l r l ]
 
+-- `Term::power` and `absolute` of a kind, by the code of the token
 unfoldable pub oneKind : Kinds → Unary → ℕ → Answer ℕ
 oneKind K u k = elim u [ exact e ↦ power K 8 k (some e) | inexact ↦ power K 9 k none | absolute ↦ scaled K 10 k ]
 
+-- of two terms: numbers alone give a number
 unfoldable pub binaryTerm : Kinds → Rows → Binary → Term → Term → Answer Term
 binaryTerm K rows b Number Number = given Number
 binaryTerm K rows b (Kind l) (Kind r) = mapped Kind (twoKinds K rows b l r)
 binaryTerm K rows b (Kind k) Number = mapped Kind (withNumber K b k (scaled K 5 k))
 binaryTerm K rows b Number (Kind k) = mapped Kind (withNumber K b k (power K 5 k (some minusOne)))
 
+-- of one term: so does a number
 unfoldable pub unaryTerm : Kinds → Unary → Term → Answer Term
 unaryTerm K u t = elim t [ Number ↦ given Number | Kind k ↦ mapped Kind (oneKind K u k) ]
 
@@ -137,6 +149,7 @@ unaryTerm K u t = elim t [ Number ↦ given Number | Kind k ↦ mapped Kind (one
 unfoldable pub kindTerm : Kinds → ℕ → Answer Term
 kindTerm K k = indexed K k >> given (Kind k)
 
+-- each step given its kind
 unfoldable pub terms : Kinds → Rows → Machine Refusal Term
 terms K rows = record { number = Number; kind = kindTerm K; unary = unaryTerm K; binary = binaryTerm K rows }
 
@@ -181,8 +194,10 @@ unaryOf (exact e) (of a g) = given (powered e a g)
 unaryOf inexact (of a g) = refused tt
 unaryOf absolute (of a g) = given (of a g)
 
+-- the calculation's steps: "with no lookup of kinds"
 unfoldable pub meanings : Kinds → Machine (Unit {0}) Meaning
 meanings K = record { number = plain; kind = λ k. given (meaning K (Kind k)); unary = unaryOf; binary = binaryOf K }
 
+-- of the whole token list
 unfoldable pub calculation : Kinds → List Token → Ended (Unit {0}) Meaning
 calculation K toks = walk (meanings K) toks 0 []

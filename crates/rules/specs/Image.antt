@@ -18,6 +18,7 @@ use Rattle.rules.specs.Table.{tableSize, roomFor, tableWords}
 unfoldable pub lengthWrong : List ℕ → Bool
 lengthWrong s = eqb (length s) 0 || not (eqb (length s % 512) 0) || ltb (121 * 512) (length s)
 
+-- 1, returning the "length"
 unfoldable pub lengthCheck : List ℕ → Placed (Unit {0})
 lengthCheck s = at 0 (refuseIf (lengthWrong s) (ImageLength (length s)))
 
@@ -47,6 +48,7 @@ lentCheck s room = do
   at 0 (roomFor tableSize room)
   readable s
 
+-- "Order: 1, 5, 2 .., 3, 4 .., then as `Registry::compile`"
 unfoldable pub compileImage : List ℕ → ℕ → Placed Compiled
 compileImage s room = lentCheck s room >> compile (catalogIn s)
 

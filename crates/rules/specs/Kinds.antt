@@ -12,6 +12,7 @@ use Rattle.dimension.specs.declared.dimensions.Dimensions.{Dimensions}
 use Rattle.dimension.specs.declared.grade.ProductOp.{ProductOp}
 use Rattle.dimension.specs.declared.grade.ProductOp.the-variants.{Mul, Div, Dot, Wedge}
 
+-- the kinds of a compiled catalog, by index
 pub record Kinds : Type 0 where
   pub count : ℕ
   -- none: unresolved
@@ -32,6 +33,7 @@ opWord op = elim op [ Mul ↦ 0 | Div ↦ 1 | Dot ↦ 2 | Wedge ↦ 3 ]
 unfoldable pub opOf : ℕ → ProductOp
 opOf n = getD (Mul ∷ Div ∷ Dot ∷ []) n Wedge
 
+-- the same operation
 abbrev pub sameOp : ProductOp → ProductOp → Bool
 sameOp a b = eqb (opWord a) (opWord b)
 

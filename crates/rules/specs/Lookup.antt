@@ -22,6 +22,7 @@ roomy table twins = roomFor tableSize (length table) >> roomFor 240 (length twin
 unfoldable pub tabled : List ℕ → List ℕ → Answer (Unit {0})
 tabled table rows = refuseIf (not (isTable table && areRows table rows)) NoTable
 
+-- "5, 40, 50 .., 41 left, 41 right", then the sum or product
 unfoldable pub combine : List ℕ → List ℕ → List ℕ → ℕ → ℕ → ℕ → Placed ℕ
 combine table rows twins code l r = at 0 (do
   roomy table twins
@@ -36,6 +37,7 @@ pub data Exponent : Type 0 where
   exact : ℤ → ℕ → Exponent
   inexact : Exponent
 
+-- 50: "exponent outside its limits"
 abbrev pub exponent : Exponent → Answer (Option Rational)
 exponent (exact n d) = elim (F.answer n d) [ Is e ↦ given (some e) | Over ↦ refused (Malformed 0) ]
 exponent inexact = given none

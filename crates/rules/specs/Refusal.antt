@@ -10,6 +10,7 @@ use Rattle.dimension.specs.declared.dimensions.Dimensions.{Dimensions}
 use Rattle.dimension.specs.declared.grade.ProductOp.{ProductOp}
 use Rattle.rules.specs.Kinds.{Graded, opWord}
 
+-- the causes, each with what it returns
 pub data Refusal : Type 0 where
   -- lent buffers and bytes
   ImageLength WrongBlock Schema WrongByte Short : ℕ → Refusal
@@ -46,6 +47,7 @@ absent = 65535
 abbrev pub Told : Type 0
 Told = record { number : ℕ; dims : Option Dimensions; values : List ℕ; twins : List ℕ }
 
+-- a line of 01's table: number and values; with dimensions; with twins, whose count is returned
 abbrev says : ℕ → List ℕ → Told
 says n vs = record { number = n; dims = none; values = vs; twins = [] }
 
@@ -55,6 +57,7 @@ saysDims n d g = record { number = n; dims = some d; values = g ∷ []; twins = 
 abbrev saysTwins : ℕ → List ℕ → Told
 saysTwins n ks = record { number = n; dims = none; values = length ks ∷ []; twins = ks }
 
+-- "No." and "Returned", cause by cause
 unfoldable pub told : Refusal → Told
 told (ImageLength n) = says 1 (n ∷ [])
 told (WrongBlock b) = says 2 (b ∷ [])
@@ -100,9 +103,11 @@ Answer A = Out Refusal A
 abbrev pub Fault : Type 0
 Fault = record { place : ℕ; refusal : Refusal }
 
+-- what gives an A, or is refused at a place
 abbrev pub Placed : Type 0 → Type 0
 Placed A = Out Fault A
 
+-- a rule's refusal, placed
 abbrev pub at : {A : Type 0} → ℕ → Answer A → Placed A
 at p m = elim m [ given a ↦ given a | refused x ↦ refused (record { place = p; refusal = x }) ]
 

@@ -32,6 +32,7 @@ report image word t = elim t [ Number ↦ word | Kind k ↦ kindPart image k ]
 unfoldable pub imageLength : List ℕ → ℕ
 imageLength input = min 121 (blocksBy input) * 512
 
+-- "reads the image, then the formula"
 abbrev pub imagePart : List ℕ → List ℕ
 imagePart input = take (imageLength input) input
 
@@ -43,6 +44,7 @@ unfoldable pub digitsBy : ℕ → ℕ → List ℕ
 digitsBy zero n = []
 digitsBy (suc k) n = cond (ltb n 10) ((48 + n) ∷ []) (digitsBy k (n / 10) ++ ((48 + n % 10) ∷ []))
 
+-- a number in decimal
 unfoldable pub digits : ℕ → List ℕ
 digits n = digitsBy (suc n) n
 
@@ -56,5 +58,6 @@ line image (refused x) = (114 ∷ 101 ∷ 102 ∷ 117 ∷ 115 ∷ 101 ∷ 100 �
 unfoldable pub checked : List ℕ → List ℕ → Placed Term
 checked image bytes = compileImage image tableSize >>= λ C. formulaIn (C .kinds) (C .rows) bytes
 
+-- the program: all that it prints for what it reads
 unfoldable pub kindcheck : List ℕ → List ℕ
 kindcheck input = line (imagePart input) (checked (imagePart input) (formulaPart input))

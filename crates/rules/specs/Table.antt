@@ -51,9 +51,11 @@ indexOr w = cond (ltb w absent) (some w) none
 unfoldable pub exponentFrom : List ℕ → ℕ → ℕ → Rational
 exponentFrom t p b = F.ratio (I.twos 2147483648 (word t (p + 2 * b))) (word t (p + 2 * b + 1))
 
+-- twelve such exponents
 unfoldable pub dimsFrom : List ℕ → ℕ → Dimensions
 dimsFrom t p = D.dimensions (tab (exponentFrom t p) 12)
 
+-- the kinds: of each below the count flag, grade, difference, rate-of and rate, from word 24 on
 unfoldable pub kindsOf : List ℕ → Kinds
 kindsOf t = record {
   count = kindsIn t;
@@ -83,6 +85,7 @@ isKind t w = ltb w (word t 0)
 abbrev pub linkFine : List ℕ → ℕ → Bool
 linkFine t w = isKind t w || eqb w absent
 
+-- "counts, indexes" of the header
 unfoldable pub headFine : List ℕ → Bool
 headFine t = leb (word t 0) 240 && leb (word t 1) 400 && linkFine t (word t 2) && linkFine t (word t 3)
 
@@ -93,9 +96,11 @@ marksFine t p =
     && cond (eqb (word t (p + 26)) 1) (isKind t (word t (p + 27))) (eqb (word t (p + 27)) absent)
     && linkFine t (word t (p + 28)) && linkFine t (word t (p + 29))
 
+-- "declared exponents lie in their ranges, fractions reduced"
 unfoldable pub exponentsFine : List ℕ → ℕ → Bool
 exponentsFine t p = cond (eqb (word t (p + 24)) 1) (all (λ b. F.declared (exponentFrom t p b)) 12) true
 
+-- all of kind k
 unfoldable pub kindFine : List ℕ → ℕ → Bool
 kindFine t k = marksFine t (kindPlace k) && exponentsFine t (kindPlace k)
 
@@ -103,6 +108,7 @@ kindFine t k = marksFine t (kindPlace k) && exponentsFine t (kindPlace k)
 unfoldable pub rowFine : List ℕ → List ℕ → ℕ → Bool
 rowFine t s p = isKind t (word s p) && ltb (word s (p + 1)) 4 && isKind t (word s (p + 2)) && isKind t (word s (p + 3))
 
+-- the header, every kind below the count, every row below the row count
 unfoldable pub isTable : List ℕ → Bool
 isTable t = headFine t && all (kindFine t) (word t 0) && all (λ i. rowFine t t (rowPlace i)) (word t 1)
 
@@ -129,12 +135,15 @@ unfoldable pub entriesIn : Catalog → ℕ → List ℕ
 entriesIn C zero = []
 entriesIn C (suc n) = entriesIn C n ++ entriesOf C (C .row n)
 
+-- the words of all rows in force
 abbrev pub inForce : Catalog → List ℕ
 inForce C = entriesIn C (C .rowCount)
 
+-- "a kind that isn't there as 65,535"
 abbrev pub indexWord : Option ℕ → ℕ
 indexWord o = found o (λ k. k) absent
 
+-- words 0 to 3: kind count, rows in force, dimensionless, time
 unfoldable pub headWords : Catalog → List ℕ
 headWords C = C .kindCount ∷ length (inForce C) / 4 ∷ indexWord (link C (C .dimensionless)) ∷ indexWord (link C (C .time)) ∷ []
 
@@ -148,17 +157,21 @@ markWords C k =
 abbrev pub exponentOf : Catalog → ℕ → ℕ → Rational
 exponentOf C k b = D.exponent (found (C .kind k .dims) (λ d. d) D.one) b
 
+-- an even word is a numerator's bits, an odd one a denominator
 unfoldable pub exponentWord : Rational → ℕ → ℕ
 exponentWord a i = cond (eqb (i % 2) 0) (I.bits32 (a .num)) (a .den)
 
+-- word f of kind k
 unfoldable pub kindWord : Catalog → ℕ → ℕ → ℕ
 kindWord C k f = cond (ltb f 24) (exponentWord (exponentOf C k (f / 2)) f) (word (markWords C k) (f - 24))
 
+-- word i: header, kinds, rows in force
 unfoldable pub tableWord : Catalog → ℕ → ℕ
 tableWord C i =
     cond (ltb i 16) (word (headWords C) i)
     (cond (ltb i (rowPlace 0)) (below (C .kindCount) 0 (λ k. kindWord C k ((i - 16) % 32)) ((i - 16) / 32))
     (word (inForce C) (i - rowPlace 0)))
 
+-- "the table's first 9,296 words"
 unfoldable pub tableWords : Catalog → List ℕ
 tableWords C = tab (tableWord C) tableSize

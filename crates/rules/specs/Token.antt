@@ -28,9 +28,11 @@ unusedZero s p =
     && (eqb (byte s p) 1 || eqb (le2 s (p + 2)) 0)
     && (eqb (byte s p) 8 || (eqb (le4 s (p + 4)) 0 && eqb (le4 s (p + 8)) 0))
 
+-- token k
 unfoldable pub tokenAt : List ℕ → ℕ → Token
 tokenAt s k = cond (unusedZero s (12 * k)) (tokenBy (byte s (12 * k)) (le2 s (12 * k + 2)) (exponentAt s (12 * k))) unreadable
 
+-- all tokens
 unfoldable pub tokensIn : List ℕ → List Token
 tokensIn s = tab (tokenAt s) (length s / 12)
 
