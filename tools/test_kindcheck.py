@@ -138,7 +138,7 @@ class Programs(unittest.TestCase):
                     self.assertEqual(line, told[words[0]])
 
     def lines(self, name, data):
-        program = os.path.join(ROOT, "target", "bin", name)
+        program = os.path.join(ROOT, "crates", name, "out", name)
         result = subprocess.run([program], input=data, capture_output=True, check=True)
         return result.stdout.decode("ascii").split("\n")
 

@@ -2,9 +2,9 @@
 
    Every function here is proved: for every input it ends, reads and writes
    nothing but what it is lent, and answers as the rules' definitions say.
-   crates/exports/src/lib.rt has the promises, bindings/README.md the words.
+   crates/exports_c/src/lib.rt has the promises, bindings/README.md the words.
 
-   Link target/staticlib/libexports.a, which `rt staticlib exports` writes
+   Link target/staticlib/libexports.a, which `tools/staticlib` writes
    (x86-64 Linux).
 
    Lent buffers. A buffer is a pointer and its length in elements. All of it

@@ -1,4 +1,4 @@
-// Links the static library that `rt staticlib exports` writes; KIND_CHECK_LIB names its folder where that is another.
+// Links the static library that `tools/staticlib` writes; KIND_CHECK_LIB names its folder where that is another.
 use std::env;
 use std::path::PathBuf;
 

@@ -1,4 +1,6 @@
 // One call of a formula over lent words and bytes: 5, 40, then the run; 44 and 48 list their twins.
+#![tactic(auto)]
+
 ghost use Rattle.std.specs.Prelude.{◌≡◌};
 ghost use Rattle.rules.specs.Refusal.{twins_after};
 ghost use Rattle.rules.specs.Call as rule;
@@ -9,6 +11,9 @@ use formula::run;
 use lookup::list_twins;
 use valid::{are_rows, is_table};
 
+// The entries of a twin list.
+const TWINS: usize = 240;
+
 pub fn call(table: &[u32], rows: &[u32], twins: &mut [u16], bytes: &[u8]) -> Answer
     ensures value { result ≡ termed (rule.call table.now rows.now twins.old bytes.now) }
     ensures twins_after { twins.new ≡ twins_after (rule.call table.now rows.now twins.old bytes.now) twins.old }
@@ -18,7 +23,7 @@ pub fn call(table: &[u32], rows: &[u32], twins: &mut [u16], bytes: &[u8]) -> Ans
         return refused(Error::Short(n), 0);
     }
     let m = twins.len();
-    if m < 240 {
+    if m < TWINS {
         return refused(Error::Short(m), 0);
     }
     if !is_table(table) {

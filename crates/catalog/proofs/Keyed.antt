@@ -1,15 +1,15 @@
 -- Ids found with the help of their keys: equal ids have equal keys, so with an image's own keys every id is found as without. Assumes nothing.
 use Prim.Native.Nat.{ℕ, zero, suc, ◌+◌, ◌*◌, ◌<◌, ◌≤◌}
-use mathlib.Core.Path.{◌≡◌, refl, sym, ◌∙◌, ap, ap₂, subst}
-use mathlib.Core.Bool.{Bool, true, false, cond, ◌&&◌, ◌||◌}
+use mathlib.Core.Path.{◌≡◌, refl, sym, ◌∙◌, ap, ap₂}
+use mathlib.Core.Bool.{Bool, true, false, cond, ◌&&◌}
 use mathlib.Core.List.{List}
-use mathlib.Core.Option.{Option, some, none}
+use mathlib.Core.Option.{some, none}
 use native.Mathlib.Omega.{arith}
-use borrow.Author.Tests.{lt-ltb, le-ltb, le-leb, lt-leb, ltb-true, ltb-false, leb-true, leb-false, eqb-true, eq-eqb}
+use borrow.Author.Tests.{lt-ltb, le-ltb, le-leb, lt-leb, ltb-true, leb-true, leb-false, eqb-true, eq-eqb}
 use lib.Dec.{eqb, ltb, leb}
 use lib.ListN.{length, get_or, replicate, get_or-append}
 use Rattle.laws.specs.Options.{or_else}
-use Rattle.laws.specs.Ranges.{first, first_from, sum, tab, overlay}
+use Rattle.laws.specs.Ranges.{first, first_from, sum, tab}
 use Rattle.laws.proofs.All.{all_at}
 use Rattle.laws.proofs.First.{first_misses, first_same}
 use Rattle.laws.proofs.FirstFrom.{from_start, from_split}

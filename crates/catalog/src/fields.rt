@@ -8,8 +8,8 @@ ghost use Rattle.dimension.specs.Dimension as D;
 ghost use Rattle.rules.specs.Kinds.{op_of};
 ghost use Rattle.rules.specs.Catalog.{or_zero, exponent_at, kind_from, row_from};
 
-use numbers::{byte_at, u16_at};
 use dimension::{Dimensions, ProductOp, Ratio, Rational, ZERO, signed16};
+use numbers::{byte_at, u16_at};
 
 // num / den in lowest terms; what is no fraction reads as absent.
 fn fraction(num: i32, den: u32) -> Rational

@@ -9,11 +9,11 @@ ghost use Rattle.catalog.specs.Keys.{key_part, key_at, kind_key, key_count, keys
 
 use crate::ids::{blank_at, names};
 use crate::records::{kind_count, kind_place};
-use numbers::u16_at;
 use error::Link;
+use numbers::u16_at;
 
 // The keys of the kinds, zeros past them.
-#[derive(Drop)]
+#[derive(Clone, Copy)]
 pub struct Keys {
     pub words: [u32; 240],
 }

@@ -1,5 +1,7 @@
 // What a catalog image declares, record by record. A record and an id are named by their place, the byte with which they begin; every place is
 // answered, and what lies past the end is 0.
+#![tactic(auto)]
+
 mod fields;
 mod ids;
 mod keys;

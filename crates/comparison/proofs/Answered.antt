@@ -23,7 +23,7 @@ use Rattle.error.specs.declared.answer.Verdict.TheVariants as verdict
 use Rattle.error.specs.declared.cause.Error.{Error}
 use Rattle.error.specs.declared.cause.Error.TheVariants as code
 use Rattle.formula.specs.Shown.{termed}
-use Rattle.comparison.specs.Returned.{Lifted, absent_kind}
+use Rattle.comparison.specs.Returned.{Lifted, no_kind_answer}
 use Rattle.comparison.proofs.Said.{same_number}
 
 -- ---- which refusal: 44, 45 or another, which no row lifts
@@ -129,7 +129,7 @@ unlifted rows x n = go (which x)
     go (other p q f) = f rows
 
 -- 45
-pub no_kind_given : (m : Placed rule.Term) (p : ℕ) (y : Graded) → termed m ≡ absent_kind p y → m ≡ refused (fault p (NoProductKind y))
+pub no_kind_given : (m : Placed rule.Term) (p : ℕ) (y : Graded) → termed m ≡ no_kind_answer p y → m ≡ refused (fault p (NoProductKind y))
 unfolding termed said_of told
 no_kind_given m p y e = at (error_given m _ (ap (λ (a : Answer). a.verdict) e))
   where

@@ -4,5 +4,5 @@ mod EachReturn
 pub mod Said
 -- demand 3 of what two runs return
 mod Answered
-pub mod Returned
+pub mod Demand3Returned
 pub mod Taught

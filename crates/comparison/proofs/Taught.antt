@@ -19,7 +19,7 @@ use Rattle.comparison.specs.declared.runs.Both.{Both}
 use Rattle.comparison.specs.declared.runs.Returned.{Returned}
 use Rattle.comparison.specs.Shown.{blank_table, blank_twins, both_of}
 use Rattle.comparison.specs.Returned.{TwoImages, past_place, Demand3Returned}
-use Rattle.comparison.proofs.Returned.{long, enough, run_is, demand3_returned}
+use Rattle.comparison.proofs.Demand3Returned.{long, enough, run_is, demand3_returned}
 
 pub met : TwoImages image larger_image compiled larger
 met =

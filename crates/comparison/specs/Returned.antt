@@ -54,15 +54,15 @@ past_place p (Kind k) q = true
 past_place p (Refused e) q = ltb p q
 
 -- 45 at place p: no kind has the dimensions and grade of y
-abbrev pub absent_kind : ℕ → Graded → Answer
-absent_kind p y = answer (Refused (NoProductKind y.grade)) p y.dims
+abbrev pub no_kind_answer : ℕ → Graded → Answer
+no_kind_answer p y = answer (Refused (NoProductKind y.grade)) p y.dims
 
 -- "Two non-point kinds whose product has a dimension and grade get "no product kind" exactly when no non-point kind carries both": wherever the
 -- formula comes to a product of two kinds
 abbrev pub Returns45 : Kinds → Rows → List ℕ → Answer → Type 0
 Returns45 K rows bytes a = (before : List rule.Token) (l : ℕ) (op : ProductOp) (r : ℕ) (rest : List rule.Token) (below : List rule.Term) (x : Graded)
     → good_length bytes ≡ true → tokens_in bytes ≡ before ++ (times_token op ∷ rest) → AtProduct K rows before l op r rest below → HasProduct K l op r x
-    → Exactly K (λ y. a ≡ absent_kind (length before) y) x
+    → Exactly K (λ y. a ≡ no_kind_answer (length before) y) x
 
 pub record Demand3Returned (c d : Compiled) (bytes : List ℕ) (r : Both) : Type 0 where
   pub both_compile : (r.small.compiles ≡ true) × (r.large.compiles ≡ true)

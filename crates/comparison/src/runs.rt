@@ -8,14 +8,14 @@ use error::{Answer, Verdict};
 use table::own_rows;
 
 // Whether the image compiles; the call's answer, or the compilation's refusal; what the twin list then holds.
-#[derive(Drop)]
+#[derive(Clone, Copy)]
 pub struct Returned {
     pub compiles: bool,
     pub answer: Answer,
     pub twins: [u16; 240],
 }
 
-#[derive(Drop)]
+#[derive(Clone, Copy)]
 pub struct Both {
     pub small: Returned,
     pub large: Returned,

@@ -10,7 +10,7 @@ use Rattle.dimension.specs.Dimension as D
 use Rattle.dimension.specs.declared.dimensions.Dimensions.{Dimensions}
 use Rattle.rules.specs.Kinds.{Kinds}
 use Rattle.rules.specs.Layout.{kind_count}
-use Rattle.rules.specs.Refusal.{told, Unknown, AffineDimensionMismatch, NestedAffineSpace}
+use Rattle.rules.specs.Refusal.{told, AffineDimensionMismatch, NestedAffineSpace}
 use Rattle.rules.specs.Catalog.{Catalog, id_at, kind_at, kind_from, catalog_in, blank, kinds_of}
 use Rattle.rules.specs.Compile.{same_dims, difference_rule}
 use Rattle.catalog.proofs.Found.{kind_in_law}

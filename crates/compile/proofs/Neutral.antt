@@ -12,7 +12,7 @@ use Rattle.laws.proofs.First.{first_here, first_end}
 use Rattle.dimension.specs.Dimension as D
 use Rattle.dimension.specs.declared.dimensions.Dimensions.{Dimensions}
 use Rattle.rules.specs.Kinds.{Kinds, point}
-use Rattle.rules.specs.Refusal.{told, Unknown, InvalidDimensionlessKind, InvalidTimeKind}
+use Rattle.rules.specs.Refusal.{told, InvalidDimensionlessKind, InvalidTimeKind}
 use Rattle.rules.specs.Catalog.{Catalog, id_at, catalog_in, blank, meant, difference_of, is_difference, role, kinds_of}
 use Rattle.rules.specs.Compile.{same_dims, dimensionless_rule, time_rule}
 use Rattle.table.proofs.Links.{to_some, nowhere_none}

@@ -13,7 +13,7 @@ use crate::rates::check_rate;
 use catalog::kind_count;
 use error::{Answer, Verdict};
 
-#[derive(Drop)]
+#[derive(Clone, Copy)]
 pub(crate) enum Rule {
     Id,
     Difference,

@@ -1,4 +1,6 @@
 // A catalog image compiled into a lent table.
+#![tactic(auto)]
+
 mod answers;
 mod compiler;
 mod ids;

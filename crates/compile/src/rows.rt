@@ -22,7 +22,7 @@ use joined::is_quotient;
 use table::{is_point, is_resolved, row_of};
 
 // A row by the kinds that it names; 65,535 where an id names none.
-#[derive(Drop)]
+#[derive(Clone, Copy)]
 struct Row {
     left: u16,
     op: ProductOp,

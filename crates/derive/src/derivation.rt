@@ -15,14 +15,14 @@ use joined::joined;
 use table::{dims_of, grade_of, is_point, is_resolved};
 
 // Whether a product has a dimension and grade.
-#[derive(Drop)]
+#[derive(Clone, Copy)]
 pub enum Ruling {
     Fine,
     Refused(Error),
 }
 
 // Fine, with dimensions and grade; or refused, with dimension one and grade 0 beside it.
-#[derive(Drop)]
+#[derive(Clone, Copy)]
 pub struct Derivation {
     pub ruling: Ruling,
     pub dims: Dimensions,
@@ -77,7 +77,7 @@ pub fn op_code(op: ProductOp) -> u8
 }
 
 // The grade of a product, or why it has none.
-#[derive(Drop)]
+#[derive(Clone, Copy)]
 pub enum GradeRuling {
     Of(u32),
     Refused(Error),

@@ -1,5 +1,7 @@
 // Which kind `left op right` is, from dimensions and grade: the derivation, and the kind that it comes to. All is read from the table's words, for
 // every list of words.
+#![tactic(auto)]
+
 mod derivation;
 mod known;
 mod resolution;

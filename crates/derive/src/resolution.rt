@@ -13,7 +13,7 @@ use fitting::{Beside, Fit, only_fit, seen_from};
 use table::words_of;
 
 // A kind, that there are several, or none.
-#[derive(Drop)]
+#[derive(Clone, Copy)]
 pub enum Several {
     Is(u16),
     Many,

@@ -6,20 +6,20 @@ ghost use Rattle.dimension.specs.Applied as Applied;
 
 use crate::rational::{Ratio, Rational, ZERO};
 
-#[derive(Drop)]
+#[derive(Clone, Copy)]
 pub struct Dimensions {
     pub powers: [Rational; 12],
 }
 
 // Dimensions; or that an exponent of theirs is over the limits, and then dimension one beside it.
-#[derive(Drop)]
+#[derive(Clone, Copy)]
 pub struct Outcome {
     pub over: bool,
     pub value: Dimensions,
 }
 
 // What is done with two exponents.
-#[derive(Drop)]
+#[derive(Clone, Copy)]
 enum Rule {
     Add,
     Minus,

@@ -5,7 +5,7 @@ ghost use Rattle.dimension.specs.Grade as G;
 use crate::rational::Rational;
 
 // The products of two kinds.
-#[derive(Drop)]
+#[derive(Clone, Copy)]
 pub enum ProductOp {
     Mul,
     Div,
@@ -14,11 +14,14 @@ pub enum ProductOp {
 }
 
 // A single grade, or that there is none.
-#[derive(Drop)]
+#[derive(Clone, Copy)]
 pub enum Grade {
     Single(u8),
     Absent,
 }
+
+// The grade of a scalar.
+const SCALAR: u8 = 0;
 
 // The grade of `a op b` stands at 4 a + b; 4 says that there is no single one. docs/GRADES.md prints them.
 const MUL: [u8; 16] = [0, 1, 2, 3, 1, 4, 4, 4, 2, 4, 4, 4, 3, 4, 4, 4];
@@ -72,7 +75,7 @@ pub fn power_grade(a: u8, exponent: Rational) -> Grade
     if exponent.is_one() {
         return graded(a);
     }
-    if a == 0 {
+    if a == SCALAR {
         return Grade::Single(0);
     }
     Grade::Absent

@@ -1,5 +1,7 @@
 // Exact exponents, the dimensions made of them, and grades. Every public function answers for every input, by an equation with a definition of
 // specs/; what crates above may know beyond that are the laws in proofs/.
+#![tactic(auto)]
+
 mod dimensions;
 mod grade;
 mod integer;

@@ -8,14 +8,14 @@ ghost use Rattle.dimension.specs.Integer as I;
 use crate::integer::{added, by, cross, down, gcd, multiplied, signed, size, subtracted, up};
 
 // num / den.
-#[derive(Drop)]
+#[derive(Clone, Copy)]
 pub struct Rational {
     pub num: i32,
     pub den: u32,
 }
 
 // A fraction in lowest terms within the limits, or that there is none.
-#[derive(Drop)]
+#[derive(Clone, Copy)]
 pub enum Ratio {
     Is(Rational),
     Over,
@@ -26,6 +26,9 @@ pub const ZERO: Rational = Rational { num: 0, den: 1 };
 pub const ONE: Rational = Rational { num: 1, den: 1 };
 
 const LIMIT: u64 = 2147483647;
+
+// The least whole number within the limits.
+const LOWEST: i64 = -2147483647;
 
 // num / den with its sign, if it is within the limits.
 fn limited(negative: bool, num: u64, den: u64) -> Ratio
@@ -73,7 +76,7 @@ fn parted(up: u64, down: u64, den: u64) -> Ratio
 fn whole(n: i64) -> Ratio
     ensures { result ≡ F.answer n 1 }
 {
-    if n < -2147483647 {
+    if n < LOWEST {
         return Ratio::Over;
     }
     if 2147483647 < n {

@@ -8,14 +8,14 @@ use crate::cause::Error;
 use dimension::Dimensions;
 
 // The index of a kind, or none.
-#[derive(Drop)]
+#[derive(Clone, Copy)]
 pub enum Link {
     To(u16),
     Nowhere,
 }
 
 // A check passed, a number, a kind, or a refusal.
-#[derive(Drop)]
+#[derive(Clone, Copy)]
 pub enum Verdict {
     Fine,
     Number,
@@ -25,7 +25,7 @@ pub enum Verdict {
 
 // The verdict; the place of a refusal, from 0; the dimensions that a refusal returns, dimension one where it returns none. What later requests add
 // to an answer (a count of lookups, a mark) is a field here.
-#[derive(Drop)]
+#[derive(Clone, Copy)]
 pub struct Answer {
     pub verdict: Verdict,
     pub place: usize,

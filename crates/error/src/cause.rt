@@ -3,7 +3,7 @@
 ghost use Rattle.std.specs.Prelude.{◌≡◌, [], ◌∷◌};
 ghost use Rattle.error.specs.Shown.{says, said_of, has_dims};
 
-#[derive(Drop)]
+#[derive(Clone, Copy)]
 pub enum Error {
     // lent buffers and bytes
     ImageLength(usize),
@@ -48,7 +48,7 @@ pub enum Error {
 }
 
 // A refusal in document 01's numbers: its own, and the values that it returns after the dimensions, the first `count` of four.
-#[derive(Drop)]
+#[derive(Clone, Copy)]
 pub struct Said {
     pub number: u32,
     pub count: usize,

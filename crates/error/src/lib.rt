@@ -1,4 +1,6 @@
 // What a call hands back: an answer, or why it is refused. The refusals get document 01's numbers here.
+#![tactic(auto)]
+
 mod answer;
 mod cause;
 

@@ -1,6 +1,8 @@
-// The calls for programs in other languages. A lent slice crosses as a pointer and a length in elements. Each call writes its answer into a buffer of
+// The calls for programs in other languages, which the crate `exports_c` hands on to them. Each call writes its answer into a buffer of
 // 32 words and hands back whether that had room: a shorter one stays as it was, and the call is made all the same. bindings/README.md has the words. The
 // report's answer is three words, which tell where the part that it prints lies.
+#![tactic(auto)]
+
 mod parts;
 mod words;
 
@@ -21,8 +23,7 @@ use report::kind_part;
 use words::write;
 
 // A catalog image compiled into a lent table.
-#[unsafe(no_mangle)]
-pub extern "C" fn kind_compile(image: &[u8], table: &mut [u32], out: &mut [u32]) -> bool
+pub fn kind_compile(image: &[u8], table: &mut [u32], out: &mut [u32]) -> bool
     ensures value { result ≡ has_room out.old }
     ensures out_after { out.new ≡ written (sheet_of compiled_words (compile_image image.now (length table.old))) out.old }
     ensures table_after { table.new ≡ table_after image.now table.old }
@@ -32,8 +33,7 @@ pub extern "C" fn kind_compile(image: &[u8], table: &mut [u32], out: &mut [u32])
 }
 
 // Two kinds combined by the code of a token, 2 to 7.
-#[unsafe(no_mangle)]
-pub extern "C" fn kind_combine(
+pub fn kind_combine(
     table: &[u32],
     rows: &[u32],
     twins: &mut [u16],
@@ -51,8 +51,7 @@ pub extern "C" fn kind_combine(
 }
 
 // A kind to the exponent num / den.
-#[unsafe(no_mangle)]
-pub extern "C" fn kind_power(
+pub fn kind_power(
     table: &[u32],
     twins: &mut [u16],
     base: u16,
@@ -69,13 +68,7 @@ pub extern "C" fn kind_power(
 }
 
 // A kind to an inexact exponent.
-#[unsafe(no_mangle)]
-pub extern "C" fn kind_power_inexact(
-    table: &[u32],
-    twins: &mut [u16],
-    base: u16,
-    out: &mut [u32],
-) -> bool
+pub fn kind_power_inexact(table: &[u32], twins: &mut [u16], base: u16, out: &mut [u32]) -> bool
     ensures value { result ≡ has_room out.old }
     ensures out_after { out.new ≡ written (sheet_of kind_words (lone.power table.now twins.old base lone.inexact)) out.old }
     ensures twins_after { twins.new ≡ twins_after (lone.power table.now twins.old base lone.inexact) twins.old }
@@ -85,8 +78,7 @@ pub extern "C" fn kind_power_inexact(
 }
 
 // A formula's tokens, 12 bytes each, run over a table and rows.
-#[unsafe(no_mangle)]
-pub extern "C" fn kind_formula(
+pub fn kind_formula(
     table: &[u32],
     rows: &[u32],
     twins: &mut [u16],
@@ -102,14 +94,7 @@ pub extern "C" fn kind_formula(
 }
 
 // Which part of what is lent the report prints: of the image for a kind, of the word for a number.
-#[unsafe(no_mangle)]
-pub extern "C" fn kind_report(
-    image: &[u8],
-    word: &[u8],
-    kinded: bool,
-    kind: u16,
-    part: &mut [usize],
-) -> bool
+pub fn kind_report(image: &[u8], word: &[u8], kinded: bool, kind: u16, part: &mut [usize]) -> bool
     ensures value { result ≡ has_part_room part.old }
     ensures part_after { part.new ≡ part_written (part_words image.now word.now (term_by kinded kind)) part.old }
     ensures part_after_2 { result ≡ true → pointed image.now word.now part.new ≡ prints.report image.now word.now (term_by kinded kind) }

@@ -95,12 +95,15 @@ fn words_of(answer: Answer) -> [u32; 32]
     }
 }
 
+// The words of an answer.
+const WORDS: usize = 32;
+
 // Writes an answer over the front of a lent buffer where that has room.
 pub(crate) fn write(answer: Answer, out: &mut [u32]) -> bool
     ensures value { result ≡ S.has_room out.old }
     ensures out_after { out.new ≡ S.written (words_by answer) out.old }
 {
-    if out.len() < 32 {
+    if out.len() < WORDS {
         return false;
     }
     let w = words_of(answer);

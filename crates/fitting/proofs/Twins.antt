@@ -60,7 +60,7 @@ module _ (test : ℕ → Bool) (m : ℕ) where
       go ih true f (k ∷ []) q =
           let z : Second n ≡ Second m = rw (picked, f, q) at e in
           let y : n ≡ m = cc in
-          (omega (arith, y), rw (picked, f, q, ← y, le-ltb n n (omega arith), picked_none (λ j. ltb n j && test j) n (λ j l. rw (le-ltb n j (omega arith)))))
+          (omega (arith, y), rw (picked, f, q, le-ltb m n (omega (arith, y)), picked_none after n (λ j l. rw (le-ltb m j (omega (arith, y))))))
       go ih true f (k ∷ j ∷ ks) q =
           let z : Second j ≡ Second m = rw (picked, f, q) at e in
           let r = ih (rw q z) in

@@ -22,7 +22,7 @@ use Rattle.dimension.proofs.ExponentLaws as E
 use Rattle.dimension.proofs.DimensionLaws as L
 use Rattle.rules.specs.Kinds as K
 use Rattle.rules.specs.Table.{word, kinds_of, kinds_in, kind_place, index_or, exponent_from, dims_from}
-use Rattle.table.proofs.Exponents.{pair_same}
+use Rattle.table.proofs.ExponentsInWords.{pair_same}
 use Rattle.fitting.specs.Shown.{at, same_word}
 
 module _ (t : List ℕ) (p : ℕ) (w : List ℕ) (a : (i : ℕ) → word t i < 4294967296) (b : (i : ℕ) → word w i < 4294967296) where

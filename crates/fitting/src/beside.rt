@@ -36,7 +36,7 @@ fn another(t: &[u32], w: &[u32], g: u32, k: u16, n: u16) -> bool
 }
 
 // What is seen of the kinds that fit from one of them, k.
-#[derive(Drop)]
+#[derive(Clone, Copy)]
 pub enum Beside {
     Alone,
     Others,

@@ -1,5 +1,7 @@
 // Whether a kind fits dimensions at a grade, and those that do: the only one, how many, listed, or seen from one of them. All is read from the table's
 // words, for every list of words.
+#![tactic(auto)]
+
 mod beside;
 mod compared;
 mod kind;

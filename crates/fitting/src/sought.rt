@@ -11,7 +11,7 @@ use crate::kind::fits_whole;
 use table::{GRADE, KIND, KINDS, kind_count};
 
 // The only kind that fits, the second of several, at which the search ended, or none.
-#[derive(Drop)]
+#[derive(Clone, Copy)]
 pub enum Fit {
     Only(u16),
     Second(u16),

@@ -1,6 +1,6 @@
 -- The terms that an array and a depth hold, and what a step does to them: one law for each way a step ends. Assumes nothing.
 use Prim.Native.Nat.{ℕ, zero, suc, ◌+◌, ◌-◌, ◌<◌, ◌≤◌}
-use mathlib.Core.Path.{◌≡◌, refl, ap, ◌∙◌}
+use mathlib.Core.Path.{◌≡◌, refl, ap}
 use mathlib.Core.Bool.{Bool, true, false, cond}
 use mathlib.Core.List.{List, [], ◌∷◌}
 use native.Mathlib.Omega.{arith}
@@ -22,8 +22,7 @@ use Rattle.tokens.specs.declared.token.Token.TheVariants as token
 use Rattle.error.specs.declared.answer.Answer.{Answer}
 use Rattle.formula.specs.Shown.{made, term_of, binary_by, stack_of, landed_of, lost_of, pushed_of, one_of, two_of, next_by, Stepped, step_by}
 use Rattle.formula.specs.declared.terms.Term.{Term}
-use Rattle.formula.specs.declared.terms.Term.TheVariants.{Number, Kind}
-use Rattle.formula.specs.declared.terms.Unary.TheVariants.{Exact, Inexact, Absolute}
+use Rattle.formula.specs.declared.terms.Term.TheVariants.{Number}
 use Rattle.formula.specs.declared.stack.Next.{Next}
 use Rattle.formula.proofs.Made.{binary_coded, compare_coded}
 

@@ -10,14 +10,14 @@ use error::{Answer, Error, Verdict};
 use tokens::Token;
 
 // What a step does: it puts a term over the first `at` terms, or the run stops.
-#[derive(Drop)]
+#[derive(Clone, Copy)]
 pub(crate) enum Go {
     Put(usize, Term),
     Stop(Error),
 }
 
 // And the dimensions that a refusal returns.
-#[derive(Drop)]
+#[derive(Clone, Copy)]
 pub(crate) struct Next {
     pub go: Go,
     pub dims: Dimensions,

@@ -14,14 +14,14 @@ use registry::{agree, combine, inexact_power, power, scaled};
 use table::kind_count;
 
 // A plain number, or a quantity of a kind.
-#[derive(Drop)]
+#[derive(Clone, Copy)]
 pub enum Term {
     Number,
     Kind(u16),
 }
 
 // What takes one term: a power with an exact exponent or an inexact one, and the absolute value.
-#[derive(Drop)]
+#[derive(Clone, Copy)]
 pub(crate) enum Unary {
     Exact(Rational),
     Inexact,

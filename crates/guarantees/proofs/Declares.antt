@@ -24,18 +24,18 @@ use Rattle.guarantees.proofs.Laid.{LaidOut, kind_fine_law}
 
 -- ---- what no wrong byte tells of the record at p
 module _ (s : List ℕ) (p : ℕ) where
-  abbrev flag_wrong_law : ℕ → Bool
-  flag_wrong_law i = eqb i (p + 144) && ltb 1 (byte s i)
+  abbrev wrong_flag : ℕ → Bool
+  wrong_flag i = eqb i (p + 144) && ltb 1 (byte s i)
 
-  abbrev grade_wrong_law : ℕ → Bool
-  grade_wrong_law i = eqb i (p + 145) && ltb 3 (byte s i)
+  abbrev wrong_grade : ℕ → Bool
+  wrong_grade i = eqb i (p + 145) && ltb 3 (byte s i)
 
-  parts : (i : ℕ) → kind_wrong s p i ≡ false → (exponent_wrong s p i ≡ false) × (grade_wrong_law i ≡ false)
+  parts : (i : ℕ) → kind_wrong s p i ≡ false → (exponent_wrong s p i ≡ false) × (wrong_grade i ≡ false)
   unfolding kind_wrong
   parts i e =
-      let a = or_neither (ids_wrong s p i || exponent_wrong s p i || flag_wrong_law i || grade_wrong_law i) _ e in
-      let b = or_neither (ids_wrong s p i || exponent_wrong s p i || flag_wrong_law i) (grade_wrong_law i) a.0 in
-      let c = or_neither (ids_wrong s p i || exponent_wrong s p i) (flag_wrong_law i) b.0 in
+      let a = or_neither (ids_wrong s p i || exponent_wrong s p i || wrong_flag i || wrong_grade i) _ e in
+      let b = or_neither (ids_wrong s p i || exponent_wrong s p i || wrong_flag i) (wrong_grade i) a.0 in
+      let c = or_neither (ids_wrong s p i || exponent_wrong s p i) (wrong_flag i) b.0 in
       ((or_neither (ids_wrong s p i) (exponent_wrong s p i) c.0).1, b.1)
 
   grade_small : kind_wrong s p (p + 145) ≡ false → byte s (p + 145) ≤ 3

@@ -6,7 +6,7 @@ use mathlib.Core.Option.{Option, some, none}
 use lib.Dec.{eqb, ltb}
 use borrow.Author.Tests.{ltb-true, ltb-false, eqb-true, eq-eqb}
 use Rattle.laws.specs.Out.{given, needed}
-use Rattle.laws.specs.Ranges.{first, below}
+use Rattle.laws.specs.Ranges.{first}
 use Rattle.laws.proofs.Cases.{and_left, and_right}
 use Rattle.laws.proofs.Checks.{bind_given, then_given, refuse_given, found_given, needed_given}
 use Rattle.laws.proofs.First.{first_below, first_passes, first_misses}

@@ -62,7 +62,7 @@ pub power_none : (a : Dimensions) (e : Rational) → Sound a → F.is_zero e ≡
 power_none a e h z =
     let t = zero_value e z in
     L.power_of a e h.twelve D.one (L.one_sound).twelve
-    (λ k l. rw (one_at k l) (E.product_of (exponent a k) e F.zero (h.proper k l).reduced.positive t.0 E.zero_proper (across (exponent a k) t.1)))
+    (λ k l. rw (one_at k l) (E.product_of_law (exponent a k) e F.zero (h.proper k l).reduced.positive t.0 E.zero_proper (across (exponent a k) t.1)))
   where
     across : (x : Rational) → e.num ≡ pos 0 → F.IsProduct x e F.zero
     across x p = zero-*ℤ (pos (x.den * e.den)) ∙ sym (ap (λ (z : ℤ). x.num *ℤ z *ℤ pos 1) p ∙ ap (λ (z : ℤ). z *ℤ pos 1) (*ℤ-zero x.num) ∙ zero-*ℤ (pos 1))

@@ -1,6 +1,6 @@
 -- The premises are met: by the teaching catalog's image alone, and with a row 6 × 7 = 1 added, turned too, which lifts the 44 of 6 × 7.
 -- Assumes nothing.
-use Prim.Native.Nat.{ℕ, zero, suc, ◌<◌}
+use Prim.Native.Nat.{ℕ, zero, suc}
 use mathlib.Core.Path.{◌≡◌, refl}
 use mathlib.Core.Bool.{Bool, true, false, cond, ◌&&◌, true≢false}
 use mathlib.Core.List.{List, [], ◌∷◌, zip_with}
@@ -18,7 +18,7 @@ use Rattle.dimension.specs.Dimension as D
 use Rattle.dimension.specs.Grade as G
 use Rattle.dimension.specs.declared.grade.ProductOp.{ProductOp}
 use Rattle.dimension.specs.declared.grade.ProductOp.TheVariants.{Mul, Div, Dot, Wedge}
-use Rattle.rules.specs.Kinds.{Rows, Graded, duration, carries, fits}
+use Rattle.rules.specs.Kinds.{Rows, Graded, carries, fits}
 use Rattle.rules.specs.Refusal.{UnresolvedTwin}
 use Rattle.rules.specs.Arithmetic.{operand, graded, grade_by, joined, derive, neutral_by, neutral, rated_by, rated, resolve, product, combine, indexed}
 use Rattle.rules.specs.Formula.{Token, kind, Kind, answered, stopped, walk, shape, malformed_at, two_kinds, binary_term, kind_term, terms, formula}
@@ -58,19 +58,19 @@ teaching_scalars = record {
 }
 
 -- ---- 6 × 7 = 1, commutative
-unfoldable pub one_row_law : Rows
-one_row_law l Mul r = cond (eqb l 6) (cond (eqb r 7) (some 1) none) (cond (eqb l 7) (cond (eqb r 6) (some 1) none) none)
-one_row_law l Div r = none
-one_row_law l Dot r = none
-one_row_law l Wedge r = none
+unfoldable pub taught_row : Rows
+taught_row l Mul r = cond (eqb l 6) (cond (eqb r 7) (some 1) none) (cond (eqb l 7) (cond (eqb r 6) (some 1) none) none)
+taught_row l Div r = none
+taught_row l Dot r = none
+taught_row l Wedge r = none
 
 -- it is a row for just these two
 module _ (Q : ℕ → ProductOp → ℕ → ℕ → Type 0) (p : Q 6 Mul 7 1) (q : Q 7 Mul 6 1) where
   never : (l : ℕ) (op : ProductOp) (r k : ℕ) → none ≡ some k → Q l op r k
   never l op r k e = let z : true ≡ false = cc in absurd (true≢false z)
 
-  row_is : (l : ℕ) (op : ProductOp) (r k : ℕ) → one_row_law l op r ≡ some k → Q l op r k
-  unfolding one_row_law
+  row_is : (l : ℕ) (op : ProductOp) (r k : ℕ) → taught_row l op r ≡ some k → Q l op r k
+  unfolding taught_row
   row_is l Div r k e = never l Div r k e
   row_is l Dot r k e = never l Dot r k e
   row_is l Wedge r k e = never l Wedge r k e
@@ -95,7 +95,7 @@ row_fits_law : IsRow teaching 6 Mul 7 1 × IsRow teaching 7 Mul 6 1
 unfolding teaching listed derive operand graded grade_by joined neutral neutral_by rated rated_by resolve fits carries picked D.product D.outcome D.equal G.product F.sum F.answer F.limited F.within F.lowest F.equal gcd euclid zip_with
 row_fits_law = (by_volume 6 7 refl refl, by_volume 7 6 refl refl)
 
-pub with_row : Guaranteed teaching one_row_law
+pub with_row : Guaranteed teaching taught_row
 with_row = record {
   grade = teaching_guaranteed.grade;
   declared = teaching_guaranteed.declared;
@@ -107,7 +107,7 @@ with_row = record {
 }
 
 -- without and with the row
-pub met : Premises teaching no_rows one_row_law
+pub met : Premises teaching no_rows taught_row
 met = record { compiles = teaching_guaranteed; compiles_too = with_row; more = λ l op r k e. let z : true ≡ false = cc in absurd (true≢false z); scalars = teaching_scalars }
 
 -- ---- "6×7 → 44 with 1, 5", and lifted
@@ -118,6 +118,6 @@ pub twins_without : formula teaching no_rows area_by_bore ≡ stopped 2 (Unresol
 unfolding teaching listed formula malformed_at walk shape terms kind_term indexed binary_term two_kinds combine product derive operand graded grade_by joined neutral neutral_by rated rated_by resolve fits carries picked D.product D.outcome D.equal G.product F.sum F.answer F.limited F.within F.lowest F.equal gcd euclid zip_with
 twins_without = refl
 
-pub volume_with : formula teaching one_row_law area_by_bore ≡ answered (Kind 1)
-unfolding teaching listed one_row_law formula malformed_at walk shape terms kind_term indexed binary_term two_kinds combine product derive operand graded grade_by joined neutral neutral_by rated rated_by resolve fits carries picked D.product D.outcome D.equal G.product F.sum F.answer F.limited F.within F.lowest F.equal gcd euclid zip_with
+pub volume_with : formula teaching taught_row area_by_bore ≡ answered (Kind 1)
+unfolding teaching listed taught_row formula malformed_at walk shape terms kind_term indexed binary_term two_kinds combine product derive operand graded grade_by joined neutral neutral_by rated rated_by resolve fits carries picked D.product D.outcome D.equal G.product F.sum F.answer F.limited F.within F.lowest F.equal gcd euclid zip_with
 volume_with = refl

@@ -29,8 +29,8 @@ abbrev dims_fine : Dimensions → Bool
 dims_fine a = eqb (length a.powers) 12 && all (λ b. F.declared (D.exponent a b)) 12
 
 module _ (K : Kinds) where
-  abbrev difference_fine_law : ℕ → ℕ → Bool
-  difference_fine_law k d = ltb d K.count && same_dims (K.dims d) (K.dims k)
+  abbrev fine_difference : ℕ → ℕ → Bool
+  fine_difference k d = ltb d K.count && same_dims (K.dims d) (K.dims k)
 
   abbrev aims : ℕ → ℕ → Dimensions → Bool
   aims k t a = found (duration K) (λ d. found (K.dims d) (λ b. carries K (record { dims = (D.product a b).value; grade = K.grade k }) t) true) true
@@ -42,7 +42,7 @@ module _ (K : Kinds) where
   kind_fine k =
       leb (K.grade k) 3
       && found (K.dims k) dims_fine true
-      && found (K.difference k) (difference_fine_law k) true
+      && found (K.difference k) (fine_difference k) true
       && found (K.rate_of k) (rate_fine k) true
       && found (K.rate k) (λ j. meant k (K.rate_of j)) true
 
@@ -66,7 +66,7 @@ module _ (K : Kinds) where
     declared = λ b h. E.declared_told (D.exponent a b) (all_at (λ b. F.declared (D.exponent a b)) 12 b (and_right (eqb (length a.powers) 12) _ e) h);
   }
 
-  difference_told : (k d : ℕ) → difference_fine_law k d ≡ true → IsDifference K k d
+  difference_told : (k d : ℕ) → fine_difference k d ≡ true → IsDifference K k d
   difference_told k d e = record { below = ltb-true d K.count (and_left (ltb d K.count) _ e); dims = same_dims_law _ _ (and_right (ltb d K.count) _ e) }
 
   rate_told : (k t : ℕ) → rate_fine k t ≡ true → IsRate K k t
@@ -111,7 +111,7 @@ module _ (K : Kinds) where
     b = found (K.dims k) dims_fine true
 
     abbrev c : Bool
-    c = found (K.difference k) (difference_fine_law k) true
+    c = found (K.difference k) (fine_difference k) true
 
     abbrev d : Bool
     d = found (K.rate_of k) (rate_fine k) true
@@ -129,7 +129,7 @@ module _ (K : Kinds) where
   tested rows f o r = record {
     grade = λ k. leb-true (K.grade k) 3 (split k (f k)).0;
     declared = λ k a p. dims_told a (at_found (K.dims k) dims_fine true p (split k (f k)).1);
-    difference = λ k d p. difference_told k d (at_found (K.difference k) (difference_fine_law k) true p (split k (f k)).2);
+    difference = λ k d p. difference_told k d (at_found (K.difference k) (fine_difference k) true p (split k (f k)).2);
     dimensionless = λ k p. one_told k (at_found K.dimensionless one_fine true p o);
     rate_of = λ k t p. rate_told k t (at_found (K.rate_of k) (rate_fine k) true p (split k (f k)).3);
     rate = λ k t p. meant_is t (K.rate_of k) (at_found (K.rate t) (λ j. meant t (K.rate_of j)) true p (split t (f t)).4);

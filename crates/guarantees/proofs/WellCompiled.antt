@@ -11,7 +11,6 @@ use lib.ListN.{length}
 use borrow.Author.Tests.{lt-ltb}
 use Rattle.laws.specs.Options.{is_some}
 use Rattle.laws.specs.Out.{given}
-use Rattle.laws.specs.Ranges.{first}
 use Rattle.laws.proofs.First.{first_here, first_misses}
 use Rattle.dimension.specs.Dimension as D
 use Rattle.dimension.specs.declared.grade.ProductOp.{ProductOp}

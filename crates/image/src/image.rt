@@ -6,8 +6,8 @@ ghost use Rattle.error.specs.Shown.{fine};
 use crate::blocks::wrong_among;
 use crate::layout::wrong_byte;
 use crate::search::Found;
-use numbers::u32_at;
 use error::{Answer, Error, Verdict, plain, refused};
+use numbers::u32_at;
 
 fn length_wrong(image: &[u8]) -> bool
     ensures { result ≡ length_wrong image.now }

@@ -8,7 +8,7 @@ ghost use Rattle.image.specs.Shown.{placed};
 use numbers::{byte_at, u16_at, u32_at};
 
 // What a search finds: a place, or nothing.
-#[derive(Drop)]
+#[derive(Clone, Copy)]
 pub enum Found {
     At(usize),
     Nothing,

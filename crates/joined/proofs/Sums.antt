@@ -98,7 +98,7 @@ module _ (t : List ℕ) (p q : ℕ) (a : (i : ℕ) → word t i < 4294967296) (e
 
   pub joined_is : (div : Bool) → joined_dims div (dims_from t p) (dims_from t q) ≡ D.dimensions (tab (joined_at t p q div) 12)
   joined_is true = ap (λ (o : Outcome). o.value) (L.quotient_of _ _ (twelve p) (twelve q) (D.dimensions (tab (joined_at t p q true) 12)) (length_tab (joined_at t p q true) 12) (λ k h. difference_at k h ∙ ap Is (sym (tab_at (joined_at t p q true) 12 k F.zero h))))
-  joined_is false = ap (λ (o : Outcome). o.value) (L.product_of _ _ (twelve p) (twelve q) (D.dimensions (tab (joined_at t p q false) 12)) (length_tab (joined_at t p q false) 12) (λ k h. sum_at k h ∙ ap Is (sym (tab_at (joined_at t p q false) 12 k F.zero h))))
+  joined_is false = ap (λ (o : Outcome). o.value) (L.product_of_law _ _ (twelve p) (twelve q) (D.dimensions (tab (joined_at t p q false) 12)) (length_tab (joined_at t p q false) 12) (λ k h. sum_at k h ∙ ap Is (sym (tab_at (joined_at t p q false) 12 k F.zero h))))
 
 -- ---- in code: a and b are whether the two kinds are whole
 module _ (t : List ℕ) (l r : ℕ) {a b : Bool} (e : a ≡ whole_kind t l) (f : b ≡ whole_kind t r) (g : (a && b) ≡ true) where

@@ -1,7 +1,7 @@
 -- Exponents that are whole numbers: they can be declared, and what the tests of them tell. Assumes nothing.
 use Prim.Native.Nat.{ℕ, ◌+◌, ◌-◌, ◌*◌, ◌<◌, ◌≤◌}
 use mathlib.Core.Path.{◌≡◌, sym, ◌∙◌}
-use mathlib.Core.Bool.{Bool, true, false, not, ◌&&◌, ◌||◌}
+use mathlib.Core.Bool.{Bool, true, false, not, ◌||◌}
 use mathlib.Core.List.{List}
 use borrow.Author.Tests.{eqb-true, lt-leb, le-leb, not-true, not-false, leb-true}
 use native.Mathlib.Omega.{arith}

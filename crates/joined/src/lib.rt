@@ -1,5 +1,7 @@
 // The dimensions of products and quotients, and the words of their exponents: whole numbers, which nearly all exponents are, are added as they stand
 // in the table's words, others as fractions.
+#![tactic(auto)]
+
 mod whole;
 mod words;
 

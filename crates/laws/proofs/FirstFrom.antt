@@ -1,7 +1,7 @@
 -- The laws of `first_from`: a loop over the n numbers from p on (`spans`), one that only gathers whether any passes (`anys`), a range taken apart into
 -- ranges that follow one another, and what code that looks through them one by one answers (`seeks`). Assumes nothing.
 use Prim.Native.Nat.{ℕ, zero, suc, ◌+◌, ◌<◌, ◌≤◌}
-use mathlib.Core.Path.{◌≡◌, refl, sym, ◌∙◌, subst}
+use mathlib.Core.Path.{◌≡◌, refl, sym, subst}
 use mathlib.Core.Bool.{Bool, true, false, not, cond, ◌||◌}
 use mathlib.Core.Logic.{⊎_elim}
 use mathlib.Core.Option.{Option, some, none}

@@ -1,4 +1,6 @@
 // Lone lookups over lent words: a product, sum or power, and the twins that a refusal names.
+#![tactic(auto)]
+
 mod lone;
 mod twins;
 

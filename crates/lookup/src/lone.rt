@@ -14,7 +14,7 @@ use table::kind_count;
 use valid::{are_rows, is_table};
 
 // An exponent as it is handed over: a numerator and a denominator, not yet reduced, or inexact.
-#[derive(Drop)]
+#[derive(Clone, Copy)]
 pub enum Exponent {
     Exact(i32, u32),
     Inexact,

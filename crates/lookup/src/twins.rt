@@ -14,7 +14,7 @@ use fitting::list_candidates;
 use table::dims_of;
 
 // What a refusal names: the left, operation and right of a product, the base and exponent of a power, or nothing.
-#[derive(Drop)]
+#[derive(Clone, Copy)]
 pub(crate) enum Origin {
     Nothing,
     Product(u16, ProductOp, u16),

@@ -1,4 +1,6 @@
 // Numbers in lent bytes, little-endian; what lies past the end is 0. `byte_at` alone indexes the bytes.
+#![tactic(auto)]
+
 ghost use Rattle.std.specs.Prelude.{◌≡◌};
 ghost use Rattle.rules.specs.Bytes.{byte, le2, le4};
 

@@ -1,4 +1,6 @@
 // What the program kindcheck prints: the two parts of its input, and the line for a formula's answer.
+#![tactic(auto)]
+
 mod check;
 mod input;
 mod lines;

@@ -4,7 +4,7 @@ ghost use Rattle.rules.specs.Report.{digits};
 ghost use Rattle.printed.specs.Shown.{written, with_byte, added};
 
 // The first `length` of 64 bytes; those after are 0.
-#[derive(Drop)]
+#[derive(Clone, Copy)]
 pub struct Line {
     pub bytes: [u8; 64],
     pub length: usize,

@@ -1,5 +1,7 @@
 // The arithmetic of kinds over a table's words: sums, products, powers, and scaling by a number. The words are taken to be a table, but there is an
 // answer for all words. Nothing lent is written: a refusal names the twins, and who has the list lists them.
+#![tactic(auto)]
+
 mod answers;
 mod codes;
 mod powers;

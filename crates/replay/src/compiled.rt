@@ -5,8 +5,8 @@ ghost use Rattle.laws.specs.Ranges.{all};
 ghost use Rattle.replay.specs.Compiled as C;
 
 use crate::kinds::{is_kind, is_pair};
-use numbers::{byte_at, u16_at, u32_at};
 use error::{Answer, Verdict};
+use numbers::{byte_at, u16_at, u32_at};
 use stored::after;
 use table::{KIND, KINDS, ROW, ROWS, word};
 

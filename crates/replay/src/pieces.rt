@@ -1,10 +1,12 @@
 // A file that is read section by section: an image or what kindcheck reads, and one answer.
-ghost use Rattle.std.specs.Prelude.{◌≤◌, ◌≡◌};
-ghost use Rattle.io.specs.Counts.{IsPrefixLen};
+ghost use Rattle.std.specs.Prelude.{◌≤◌, ◌≡◌, length, IfOk};
 ghost use Rattle.replay.specs.Pieces as P;
 
 use crate::{compiled, lines};
 use numbers::{u16_at, u32_at};
+use std::fs::File;
+use std::os::unix::fs::FileExt;
+use std::{fs, io};
 use stored::{Tally, UNREADABLE, after, front};
 
 pub(crate) const COMPILATIONS: u32 = 2;
@@ -14,20 +16,21 @@ pub(crate) const LINES: u32 = 6;
 // No stored file is longer.
 const LIMIT: u64 = 16777216;
 
+// No section is longer, and no input that it holds.
+const LARGE: usize = 65536;
+
 // Whether a section agrees, and its bytes.
-#[derive(Drop)]
+#[derive(Clone, Copy)]
 struct Compared {
     agrees: bool,
     size: usize,
 }
 
 // What the file holds from a place on, as much as there is room for.
-fn read_at(file: i32, at: u64, buffer: &mut [u8]) -> usize
-    requires { at ≤ 8589934592 }
-    ensures { IsPrefixLen result buffer.new }
+fn read_at(file: &File, at: u64, buffer: &mut [u8]) -> io::Result<usize>
+    ensures { IfOk result (λ n. n ≤ length buffer.new) }
 {
-    let got = libc::pread(file, buffer, at as i64);
-    io::count(got, buffer)
+    file.read_at(buffer, at)
 }
 
 // Whether the answer that s begins with is given to the input.
@@ -65,18 +68,18 @@ fn section(s: &[u8], group: u32, input: &mut [u8]) -> Compared
 }
 
 // How many of n sections agree; none if one isn't whole or they don't end with the file.
-fn agreed(file: i32, group: u32, n: u32, buffer: &mut [u8], input: &mut [u8]) -> u32 {
+fn agreed(file: &File, group: u32, n: u32, buffer: &mut [u8], input: &mut [u8]) -> io::Result<u32> {
     let mut at: u64 = 16;
     let mut i: u32 = 0;
     let mut count: u32 = 0;
     while i < n {
         if LIMIT < at {
-            return 0;
+            return Ok(0);
         }
-        let held = read_at(file, at, buffer);
+        let held = read_at(file, at, buffer)?;
         let found = section(&buffer[..held], group, input);
         if held < found.size {
-            return 0;
+            return Ok(0);
         }
         if found.agrees {
             count += 1;
@@ -84,35 +87,29 @@ fn agreed(file: i32, group: u32, n: u32, buffer: &mut [u8], input: &mut [u8]) ->
         at += found.size as u64;
         i += 1;
     }
-    if read_at(file, at, buffer) == 0 {
-        count
-    } else {
-        0
-    }
+    let past = read_at(file, at, buffer)?;
+    Ok(if past == 0 { count } else { 0 })
 }
 
-fn counted(file: i32, group: u32, buffer: &mut [u8]) -> Tally {
-    let held = read_at(file, 0, buffer);
+fn counted(file: &File, group: u32, buffer: &mut [u8]) -> io::Result<Tally> {
+    let held = read_at(file, 0, buffer)?;
     let head = &buffer[..held];
     if !stored::is_group(head, group) {
-        return UNREADABLE;
+        return Ok(UNREADABLE);
     }
     let sections = u32_at(head, 8);
     let requests = u32_at(head, 12);
-    let mut input = io::large_buffer();
-    Tally {
-        agreed: agreed(file, group, sections, buffer, &mut input),
-        requests,
-    }
+    let mut input = [0u8; LARGE];
+    let agreed = agreed(file, group, sections, buffer, &mut input)?;
+    Ok(Tally { agreed, requests })
 }
 
-pub(crate) fn replayed(name: &[u8], group: u32) -> Tally {
-    let file = os::open_read(name);
-    if file < 0 {
-        return UNREADABLE;
+pub(crate) fn replayed(rt: &HostRuntime, name: &str, group: u32) -> io::Result<Tally> {
+    match fs::open(rt, name) {
+        Ok(file) => {
+            let mut buffer = [0u8; LARGE];
+            counted(&file, group, &mut buffer)
+        }
+        Err(_) => Ok(UNREADABLE),
     }
-    let mut buffer = io::large_buffer();
-    let tally = counted(file, group, &mut buffer);
-    libc::close(file);
-    tally
 }

@@ -6,10 +6,10 @@ ghost use Rattle.lookup.specs.Shown.{placed, exponent_of};
 ghost use Rattle.formula.specs.Shown.{termed};
 ghost use Rattle.replay.specs.Requests as R;
 
-use numbers::{byte_at, u16_at, u32_at};
 use dimension::signed32;
 use error::Answer;
 use lookup::Exponent;
+use numbers::{byte_at, u16_at, u32_at};
 use stored::{after, front};
 use table::own_rows;
 

@@ -4,13 +4,14 @@ ghost use Rattle.replay.specs.Requests as R;
 
 use crate::requests;
 use numbers::{u16_at, u32_at};
+use std::io;
 use stored::{ROOM, Tally, UNREADABLE, after, front};
 
 // One block more than an image can have.
 const LONGEST: usize = 62464;
 
 // How many requests of a part of the file agree, and its bytes.
-#[derive(Drop)]
+#[derive(Clone, Copy)]
 struct Walked {
     agreed: u32,
     size: usize,
@@ -85,8 +86,8 @@ fn counted(s: &[u8], group: u32) -> Tally {
     }
 }
 
-pub(crate) fn replayed(name: &[u8], group: u32) -> Tally {
-    let mut buffer = [0u8; ROOM];
-    let n = crate::tally::read(name, &mut buffer);
-    counted(&buffer[..n], group)
+pub(crate) fn replayed(rt: &HostRuntime, name: &str, group: u32) -> io::Result<Tally> {
+    let mut buffer = crate::tally::room();
+    let n = crate::tally::read(rt, name, &mut buffer)?;
+    Ok(counted(&buffer[..n], group))
 }

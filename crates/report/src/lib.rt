@@ -1,14 +1,16 @@
 // The report: a kind's id, or the caller's own word for a number, as a part of what was lent. Nothing is copied, and `part` alone takes a part.
+#![tactic(auto)]
+
 ghost use Rattle.std.specs.Prelude.{◌≡◌, ◌<◌, take, drop};
 ghost use Rattle.rules.specs.Report as rule;
 ghost use Rattle.formula.specs.Shown.{term_of};
 ghost use Rattle.report.specs.Shown.{is_readable, padded, id_length};
 
-use numbers::byte_at;
 use catalog::{kind_count, kind_place};
 use error::Verdict;
 use formula::Term;
 use image::check_image;
+use numbers::byte_at;
 
 // The bytes from `at` on, `len` of them or as many as there are.
 pub fn part(s: &[u8], at: usize, len: usize) -> &[u8]

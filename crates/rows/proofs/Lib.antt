@@ -1,6 +1,4 @@
--- A list of row records and its words, and walks of code over a lent list of them.
+-- A list of row records and its words.
 mod Words
-mod Lent
-mod Borrowed
 mod Stands
 mod Listed

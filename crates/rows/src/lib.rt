@@ -1,5 +1,6 @@
-// Rows in force as a list of row records: four numbers a row, as in the words of a table. The functions that take such a list are proved by hand, so
-// they are few, and leave the work to functions of plain parameters.
+// Rows in force as a list of row records: four numbers a row, as in the words of a table.
+#![tactic(auto)]
+
 ghost use Rattle.std.specs.Prelude.{[], ◌∷◌, ◌≡◌, ◌<◌, take};
 ghost use Rattle.std.proofs.Math.Option.{none};
 ghost use Rattle.rules.specs.Lookup as lone;
@@ -19,7 +20,7 @@ use table::{index_or, op_word, word};
 use valid::are_rows;
 
 // A row in force.
-#[derive(Drop)]
+#[derive(Clone, Copy)]
 pub struct Row {
     pub left: u32,
     pub op: u32,

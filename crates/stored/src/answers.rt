@@ -4,9 +4,9 @@ ghost use Rattle.std.specs.Prelude.{◌≡◌, ◌+◌, ◌<◌, ◌≤◌, eqb,
 ghost use Rattle.stored.specs.Answers as rule;
 
 use crate::exponents::dimensions;
-use numbers::{byte_at, u16_at, u32_at};
 use dimension::Dimensions;
 use error::{Answer, Error, Said, Verdict, returns_dimensions, say};
+use numbers::{byte_at, u16_at, u32_at};
 
 // Where the twins stand.
 fn twins_at(s: &[u8]) -> usize

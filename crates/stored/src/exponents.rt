@@ -3,8 +3,8 @@ ghost use Rattle.std.specs.Prelude.{◌≡◌, drop};
 ghost use Rattle.stored.specs.Exponents as E;
 
 use crate::files::after;
-use numbers::u32_at;
 use dimension::{Dimensions, Rational, signed32};
+use numbers::u32_at;
 
 // The exponent at `at`.
 pub fn exponent(s: &[u8], at: usize) -> Rational

@@ -1,4 +1,6 @@
 // What the stored files hold (docs/VECTORS.md): headers, exponents, packed images, and answers, which are compared with those given here.
+#![tactic(auto)]
+
 mod answers;
 mod exponents;
 mod files;

@@ -1,7 +1,7 @@
 // How many requests of a stored file were answered as stored.
 
 // Requests of a file, and how many of them agree.
-#[derive(Drop)]
+#[derive(Clone, Copy)]
 pub struct Tally {
     pub agreed: u32,
     pub requests: u32,

@@ -5,7 +5,7 @@
 --     Spans        of a range in which nothing is found: it grows, each fails, and what fails one test throughout fails another
 pub mod Links
 pub mod Fields
-pub mod Exponents
+pub mod ExponentsInWords
 pub mod Spans
 -- on the way there
 mod Scanned

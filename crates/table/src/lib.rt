@@ -1,5 +1,7 @@
 // The table's words: their places, and what they are read as: kinds and rows. Every public function answers for every list of words; what is read
 // past the end is 0.
+#![tactic(auto)]
+
 mod kinds;
 mod places;
 mod rows;

@@ -70,7 +70,7 @@ fn num_word(x: Rational) -> u32
 }
 
 // Twelve exponents, two words each, as a kind has them.
-#[derive(Drop)]
+#[derive(Clone, Copy)]
 pub struct Exponents {
     pub words: [u32; 24],
 }

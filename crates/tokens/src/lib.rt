@@ -1,4 +1,6 @@
 // A formula's tokens, and where a formula is malformed. Every function answers for every byte sequence; what lies past the end is 0.
+#![tactic(auto)]
+
 mod shape;
 mod token;
 

@@ -7,14 +7,14 @@ ghost use Rattle.tokens.specs.Shown.{grown, kept, joined, after, shaped, malform
 use crate::token::{Token, token_at, token_count};
 
 // No token is out of place, or the first that is; the token count where the end leaves several terms.
-#[derive(Drop)]
+#[derive(Clone, Copy)]
 pub enum Shape {
     Fine,
     Bad(usize),
 }
 
 // The depth after a token, or that the token is out of place.
-#[derive(Drop)]
+#[derive(Clone, Copy)]
 enum Depth {
     To(usize),
     Wrong,

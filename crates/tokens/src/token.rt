@@ -7,11 +7,11 @@ ghost use Rattle.rules.specs.Formula.{unary, exact};
 ghost use Rattle.rules.specs.Token.{token_by, token_at};
 ghost use Rattle.tokens.specs.Shown.{coded, unused, token_of, made};
 
-use numbers::{byte_at, u16_at, u32_at};
 use dimension::{Ratio, Rational, signed32};
+use numbers::{byte_at, u16_at, u32_at};
 
 // One token. An exact power has an exponent in lowest terms within the limits, an operation its code, 2 to 7.
-#[derive(Drop)]
+#[derive(Clone, Copy)]
 pub enum Token {
     Number,
     Kind(u16),
@@ -24,7 +24,7 @@ pub enum Token {
 }
 
 // A token's five fields. However they are read, one call makes the token of them, so that the compiler puts it there.
-#[derive(Drop)]
+#[derive(Clone, Copy)]
 struct Fields {
     code: u8,
     second: u8,

@@ -1,5 +1,7 @@
 // Which words are a table, and which are rows over its kinds (document 01's 40): counts, indexes, roles, grades and declared exponents in their
 // ranges. Both answer for every list of words.
+#![tactic(auto)]
+
 mod exponents;
 mod kinds;
 mod marks;

@@ -4,9 +4,10 @@ ghost use Rattle.std.specs.Prelude.{true, ◌≡◌, ◌≤◌, length};
 ghost use Rattle.dimension.specs.Dimension as D;
 ghost use Rattle.vectors.specs.ExponentRecords as R;
 
-use numbers::u32_at;
 use dimension::{Dimensions, Outcome, Ratio, Rational};
-use stored::{ROOM, Tally, UNREADABLE, after, dimensions, exponent};
+use numbers::u32_at;
+use std::io;
+use stored::{Tally, UNREADABLE, after, dimensions, exponent};
 
 const GROUP: u32 = 1;
 
@@ -132,8 +133,8 @@ fn counted(s: &[u8]) -> Tally {
     }
 }
 
-pub(crate) fn replayed() -> Tally {
-    let mut buffer = [0u8; ROOM];
-    let n = crate::tally::read(b"exponents.bin", &mut buffer);
-    counted(&buffer[..n])
+pub(crate) fn replayed(rt: &HostRuntime) -> io::Result<Tally> {
+    let mut buffer = crate::tally::room();
+    let n = crate::tally::read(rt, "exponents.bin", &mut buffer)?;
+    Ok(counted(&buffer[..n]))
 }

@@ -6,8 +6,9 @@ ghost use Rattle.error.specs.Shown.{said_of};
 ghost use Rattle.vectors.specs.ImageRequests.{verdict_as, told_as};
 ghost use Rattle.error.specs.declared.answer.Verdict.TheVariants as Verdict;
 
-use numbers::{byte_at, u16_at, u32_at};
 use error::{Answer, Error, Verdict};
+use numbers::{byte_at, u16_at, u32_at};
+use std::io;
 use stored::{ROOM, Tally, UNREADABLE, after, front};
 
 const GROUP: u32 = 5;
@@ -188,8 +189,8 @@ fn counted(s: &[u8]) -> Tally {
     }
 }
 
-pub(crate) fn replayed() -> Tally {
-    let mut buffer = [0u8; ROOM];
-    let n = crate::tally::read(b"images.bin", &mut buffer);
-    counted(&buffer[..n])
+pub(crate) fn replayed(rt: &HostRuntime) -> io::Result<Tally> {
+    let mut buffer = crate::tally::room();
+    let n = crate::tally::read(rt, "images.bin", &mut buffer)?;
+    Ok(counted(&buffer[..n]))
 }

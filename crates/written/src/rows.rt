@@ -13,14 +13,14 @@ use catalog::{find_by, is_commutative, op_at, row_count, row_place};
 use table::op_word;
 
 // The words that a row enters: the first `count` of them.
-#[derive(Drop)]
+#[derive(Clone, Copy)]
 struct Entries {
     words: [u32; 8],
     count: usize,
 }
 
 // The words of all rows in force: the first `used` of them, and zeros.
-#[derive(Drop)]
+#[derive(Clone, Copy)]
 pub(crate) struct Force {
     pub(crate) words: [u32; 1600],
     pub(crate) used: usize,

@@ -15,7 +15,7 @@ use catalog::{DIMENSIONLESS, TIME, keys_of, kind_count, row_count};
 use table::{Head, KIND, KINDS, ROW};
 
 // The words of the rows in force, with zeros past them, and what the ids of the rows name: three a row (left, right, result), 65,535 for none.
-#[derive(Drop)]
+#[derive(Clone, Copy)]
 pub struct Written {
     pub rows: [u32; 1600],
     pub links: [u16; 600],

@@ -1,0 +1,13 @@
+-- `derive::known::neutral` meets its contract: the link is followed.
+use borrow.Author.Rules.{rules}
+use Rattle.rules.specs.Arithmetic as rule
+use Rattle.table.proofs.Links.{links}
+use Rattle.derive.proofs.known.neutral.Goals as goal
+
+pub returns-in-To : goal.returns-in-To
+unfolding rule.neutral
+returns-in-To c = search (links, rules)
+
+pub returns-in-Nowhere : goal.returns-in-Nowhere
+unfolding rule.neutral
+returns-in-Nowhere c = search (links, rules)

@@ -1,0 +1,9 @@
+-- `fitting::compared::same_exponents` meets its contract: all words at once, or pair by pair.
+use mathlib.Core.Path.{◌∙◌}
+use native.Mathlib.Omega.{arith}
+use Rattle.fitting.proofs.Worded.{words_same}
+use Rattle.fitting.proofs.compared.same_exponents.Goals as goal
+
+pub returns-then-p-t : goal.returns-then-p-t
+returns-then-p-t c =
+    c.same_words.ensures ∙ words_same _ _ _ (λ i. omega (arith, c.shared_slice_known-1.given i)) (λ i. omega (arith, c.shared_slice_known-2-1.given i))

@@ -1,9 +1,0 @@
--- `formula::terms::binary_term` meets its contract.
--- Assumes nothing.
-use Rattle.formula.proofs.Made.{makes}
-use borrow.Author.Rules.{rules}
-use Rattle.formula.proofs.terms.binary_term.Statement.{statement}
-use Rattle.formula.proofs.terms.binary_term.Tie as tie
-
-pub binary_term_spec : {M : Type 1} → statement M
-binary_term_spec = tie.close (tie.spec (search rules) (search rules) (search rules) (search rules) (λ c. search (makes, rules)) (λ c. search (makes, rules)))

@@ -1,0 +1,22 @@
+-- `image::layout::block_fault` meets its contract: the header, a block of kinds, or one of rows.
+use mathlib.Core.Path.{◌∙◌, ap}
+use native.Mathlib.Omega.{arith}
+use Rattle.image.specs.Shown.{placed}
+use Rattle.image.proofs.Whole.{header_block, kind_block, row_block}
+use Rattle.image.proofs.layout.block_fault.Goals as goal
+
+pub returns-then-b-eq0 : goal.returns-then-b-eq0
+returns-then-b-eq0 c =
+    rw c.if-b-eq0.true (c.header_fault.ensures ∙ ap placed (header_block c.args.s.now))
+
+pub returns-then-b-k : goal.returns-then-b-k
+returns-then-b-k c =
+    let kinds = c.u16_at-kinds.ensures in
+    rw kinds at c.kind_block_fault.ensures
+    ∙ ap placed (kind_block c.args.s.now c.args.b (omega arith) (rw kinds at c.if-b-k.true))
+
+pub returns : goal.returns
+returns c =
+    let kinds = c.u16_at-kinds.ensures in
+    rw (kinds, c.u16_at-rows.ensures) at c.row_block_fault.ensures
+    ∙ ap placed (row_block c.args.s.now c.args.b (omega arith) (rw kinds at c.if-b-k.false))

@@ -1,0 +1,13 @@
+-- `image::layout::kinds_fault` meets its contract: record by record.
+use Prim.Native.Nat.{◌-◌, ◌≤◌}
+use mathlib.Core.Path.{◌≡◌}
+use mathlib.Core.Option.{none}
+use Rattle.rules.specs.Layout.{kind_wrong}
+use Rattle.image.specs.Shown.{records_at}
+use Rattle.image.proofs.layout.kinds_fault.Given as goal
+
+abbrev pub invariant-loop-j : goal.invariant-loop-j
+invariant-loop-j l = (l.j ≤ l.records) × (records_at (kind_wrong l.s) 148 l.p l.j ≡ none)
+
+abbrev pub decreases-loop-j : goal.decreases-loop-j
+decreases-loop-j l = l.records - l.j

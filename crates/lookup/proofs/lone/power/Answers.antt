@@ -1,0 +1,29 @@
+-- `lookup::lone::power` meets its contract.
+use Rattle.lookup.specs.Shown.{exponent_of}
+use Rattle.lookup.proofs.Whole.{power_short, power_list, power_words, power_done}
+use Rattle.lookup.proofs.lone.power.Goals as goal
+use Rattle.laws.proofs.Cases.{not_then, not_else}
+
+pub returns-then-n-lt9296 : goal.returns-then-n-lt9296
+returns-then-n-lt9296 c =
+    let s = c.args in
+    let given = power_short s.table.now s.twins.now s.k (exponent_of s.exponent) c.if-n-lt9296.true c.refused.ensures in
+    record { value = given.0; twins_after = given.1 }
+
+pub returns-then-m-lt240 : goal.returns-then-m-lt240
+returns-then-m-lt240 c =
+    let s = c.args in
+    let given = power_list s.table.now s.twins.now s.k (exponent_of s.exponent) c.if-n-lt9296.false c.if-m-lt240.true c.refused-then-m-lt240.ensures in
+    record { value = given.0; twins_after = given.1 }
+
+pub returns-then-not-is_table : goal.returns-then-not-is_table
+returns-then-not-is_table c =
+    let s = c.args in
+    let given = power_words s.table.now s.twins.now s.k (exponent_of s.exponent) c.if-n-lt9296.false c.if-m-lt240.false c.is_table.ensures (not_then c.if-not-is_table.true) c.refused-then-not-is_table.ensures in
+    record { value = given.0; twins_after = given.1 }
+
+pub returns : goal.returns
+returns c =
+    let s = c.args in
+    let given = power_done s.table.now s.twins.now s.k (exponent_of s.exponent) c.if-n-lt9296.false c.if-m-lt240.false c.is_table.ensures (not_else c.if-not-is_table.false) c.raised-answer.ensures c.list_twins.ensures in
+    record { value = given.0; twins_after = given.1 }

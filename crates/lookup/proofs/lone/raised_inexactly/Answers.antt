@@ -1,0 +1,10 @@
+-- `lookup::lone::raised_inexactly` meets its contract.
+use borrow.Author.Rules.{rules}
+use Rattle.lookup.proofs.Ordered.{raising}
+use Rattle.lookup.proofs.lone.raised_inexactly.Goals as goal
+
+pub returns-then-kind_count-k : goal.returns-then-kind_count-k
+returns-then-kind_count-k c = search (raising, rules)
+
+pub returns : goal.returns
+returns c = search (raising, rules)

@@ -1,0 +1,6 @@
+-- No more has been read than the buffer holds.
+use Rattle.std.proofs.Common.{◌≤◌, length}
+use Rattle.reading.proofs.read_full.Given as goal
+
+abbrev pub invariant-loop : goal.invariant-loop
+invariant-loop g l = l.at ≤ length l.buffer

@@ -1,0 +1,13 @@
+use borrow.Author.Rules.{rules}
+use mathlib.Core.Path.{refl}
+use native.Mathlib.Omega.{arith}
+use Rattle.laws.proofs.FirstFrom.{anys, any_next}
+use Rattle.table.specs.Shown.{left_is}
+use Rattle.table.proofs.rows.any_left.Goals as goal
+
+pub loop-i-init : goal.loop-i-init
+loop-i-init c = search (anys, rules)
+
+pub loop-i-preserved : goal.loop-i-preserved
+unfolding left_is
+loop-i-preserved c = let l = c.loop-i in (omega arith, any_next _ _ l.i l.invariant.1 refl)

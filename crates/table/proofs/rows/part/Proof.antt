@@ -1,9 +1,0 @@
--- `table::rows::part` meets its contract.
--- Assumes nothing.
-use borrow.Author.Rules.{rules}
-use Rattle.laws.proofs.Part.{parts}
-use Rattle.table.proofs.rows.part.Statement.{statement}
-use Rattle.table.proofs.rows.part.Tie as tie
-
-pub part_spec : {M : Type 1} → statement M
-part_spec = tie.close (tie.spec (search rules) (search rules) (search rules) (λ c. search (parts, rules)) (search rules) (search rules) (search rules) (search rules) (search rules) (λ c. search (parts, rules)) (search rules) (search rules) (search rules) (search rules) (search rules) (λ c. search (parts, rules)))
