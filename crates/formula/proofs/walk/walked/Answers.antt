@@ -14,7 +14,7 @@ use Rattle.formula.proofs.walk.walked.Goals as goal
 
 pub loop-k-init : goal.loop-k-init
 unfolding stack_of
-loop-k-init c = (search rules, c.token_count-n.ensures, search rules, c.empty-stack.ensures, start (rule.terms _ _) _)
+loop-k-init c = (search rules, search rules, search rules, search rules, start (rule.terms _ _) _)
 
 pub offset_bounds-stack-at : goal.offset_bounds-stack-at
 offset_bounds-stack-at c =
