@@ -50,7 +50,7 @@ def kinds_and_rows(catalog):
     answer = expected.compiled(catalog)
     links = " ".join(written.optional(link) for link in expected.header_kinds(catalog))
     return (f"abbrev K : Kinds\nK = these {written.compiled_kinds(answer)} {links}\n\n"
-            f"abbrev R : Rows\nR = rules-Table.rowsOf {written.numbers(expected.row_words(answer.rows))}\n")
+            f"abbrev R : Rows\nR = rules-Table.rows_of {written.numbers(expected.row_words(answer.rows))}\n")
 
 
 def small_images(sources, blocks):

@@ -55,7 +55,7 @@ def image_case(image, room, answer, about):
         asked, wanted = "[]", written.refusal(answer)
     else:
         asked, wanted = compiled(read_image(image), answer)
-    return Case(f"compileImage {written.numbers(image)} {room} {asked}", wanted, about)
+    return Case(f"compile_image {written.numbers(image)} {room} {asked}", wanted, about)
 
 
 def images(sources, most):
@@ -132,7 +132,7 @@ def unsaid(image):
 
 
 def byte_cases(random, image):
-    """byteWrong at bytes that are wrong, beside them and elsewhere. Past byte
+    """byte_wrong at bytes that are wrong, beside them and elsewhere. Past byte
     10 nothing is said of an image whose counts or length are wrong."""
     wrong = set(expected.wrong_bytes(image))
     asked = {place + step for place in wrong for step in (-1, 0, 1)} | set(range(11))
@@ -142,14 +142,14 @@ def byte_cases(random, image):
         asked -= unsaid(image)
     else:
         asked &= set(range(11))
-    return [Case(f"rules-Layout.byteWrong s {place}", written.truth(place in wrong),
+    return [Case(f"rules-Layout.byte_wrong s {place}", written.truth(place in wrong),
                  f"byte {place} of {image.hex()}")
             for place in sorted(asked) if 0 <= place < len(image)]
 
 
 def block_cases(image):
     """The first blocks alone: a sum reads 508 bytes."""
-    return [Case(f"rules-Image.sumWrong s {block}", written.truth(expected.block_is_wrong(image, block)),
+    return [Case(f"rules-Image.sum_wrong s {block}", written.truth(expected.block_is_wrong(image, block)),
                  f"block {block} of {image.hex()}") for block in range(min(3, len(image) // BLOCK))]
 
 
@@ -173,7 +173,7 @@ def image_given(image):
 
 def read_case(image, answer):
     asked, wanted = compiled(read_image(image), answer)
-    return Case(f"compile (rules-Catalog.catalogIn {written.numbers(image)}) {asked}", wanted,
+    return Case(f"compile (rules-Catalog.catalog_in {written.numbers(image)}) {asked}", wanted,
                 f"image {image.hex()}")
 
 

@@ -36,7 +36,7 @@ def tokens_text(formula):
 
 
 def formula_case(formula, answer, about):
-    return Case(f"placed (rules-Call.formulaIn K R {written.numbers(formula)})",
+    return Case(f"placed (rules-Call.formula_in K R {written.numbers(formula)})",
                 written.answered(answer), f"{about}formula {formula.hex()}")
 
 
@@ -150,7 +150,7 @@ def indexes(sources, most):
 
 def calculated_text(found):
     if found == "plain" or found is None:
-        return found or "none-of-it"
+        return found or "none_of_it"
     dims, grade = found
     pairs = None if dims is None else [(f.numerator, f.denominator) for f in dims]
     return f"of {written.dimensions(pairs)} {grade}"

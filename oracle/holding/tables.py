@@ -20,7 +20,7 @@ def used_places(random, catalog):
 
 def word_sheet(random, place, catalog):
     words = words_of(catalog)
-    cases = [Case(f"rules-Table.tableWord C {at}", str(words[at]), f"catalog {place}, word {at}")
+    cases = [Case(f"rules-Table.table_word C {at}", str(words[at]), f"catalog {place}, word {at}")
              for at in used_places(random, catalog)]
     return sheets_of(f"Words{place}x", cases, 150, f"abbrev C : Catalog\nC = {written.catalog(catalog)}\n")
 
@@ -34,7 +34,7 @@ def words(sources, most):
 
 
 def all_words(sources, most):
-    """Every word of whole tables, 581 at a time. `tableWords` itself puts each
+    """Every word of whole tables, 581 at a time. `table_words` itself puts each
     word behind the list so far, too long for a statement."""
     catalogs = compiled_catalogs(sources, -(-most // PARTS))
     cases = [part_case(place, catalog, part)
@@ -45,8 +45,8 @@ def all_words(sources, most):
 def part_case(place, catalog, part):
     size = expected.TABLE_WORDS // PARTS
     wanted = words_of(catalog)[part * size:(part + 1) * size]
-    return Case(f"map (rules-Table.tableWord ({written.catalog(catalog)})) "
-                f"(upFrom {part * size} {size})",
+    return Case(f"map (rules-Table.table_word ({written.catalog(catalog)})) "
+                f"(up_from {part * size} {size})",
                 written.numbers(wanted), f"catalog {place}, {size} words from {part * size} on")
 
 
@@ -54,8 +54,8 @@ def table_case(place, catalog):
     """What the words of a table are read as."""
     answer = expected.compiled(catalog)
     links = " ".join(written.optional(link) for link in expected.header_kinds(catalog))
-    text = f"(rules-Table.kindsOf {written.numbers(words_of(catalog))})"
-    return Case(f"compiled (seen {text}) ({text} .dimensionless) ({text} .time) [] []",
+    text = f"(rules-Table.kinds_of {written.numbers(words_of(catalog))})"
+    return Case(f"compiled (seen {text}) {text}.dimensionless {text}.time [] []",
                 f"compiled {written.compiled_kinds(answer)} {links} [] []",
                 f"catalog {place}, its words read")
 
@@ -96,7 +96,7 @@ def forty(sources, most):
     chosen = [sources.random.choice(good) for _ in range(most)]
     tried = [*good[:most // 10], *edge_tables(good[0]),
              *(spoiled_words(sources.random, words) for words in chosen)]
-    cases = [Case(f"rules-Table.isTable {written.numbers(words)}",
+    cases = [Case(f"rules-Table.is_table {written.numbers(words)}",
                   written.truth(expected.is_table(words)), f"words {changes(words)}")
              for words in tried[:most]]
     return sheets_of("Forty", cases, 20)
@@ -110,7 +110,7 @@ def heads(_, most):
             for link in (0, kinds, max(kinds, 1) - 1, 65534, 65535, 65536):
                 for words in ([kinds, rows, link, 65535], [kinds, rows, 65535, link]):
                     fine = kinds <= 240 and rows <= 400 and (link < kinds or link == 65535)
-                    cases.append(Case(f"rules-Table.headFine {written.numbers(words)}",
+                    cases.append(Case(f"rules-Table.head_fine {written.numbers(words)}",
                                       written.truth(fine), f"header {words}"))
     return sheets_of("Heads", spread(cases, most), 100)
 
@@ -140,7 +140,7 @@ def row_lists(sources, most):
                  range(random.choice([0, 3, 4, 5, 8, 12]))]
         if words and random.random() < 0.5:
             words[random.randrange(len(words))] = random.choice([3, 4, kinds, 65535])
-        cases.append(Case(f"rules-Table.areRows {written.numbers([kinds])} {written.numbers(words)}",
+        cases.append(Case(f"rules-Table.are_rows {written.numbers([kinds])} {written.numbers(words)}",
                           written.truth(expected.rows_are_fine(words, kinds)),
                           f"{kinds} kinds, rows {words}"))
     return sheets_of("RowLists", cases, 100)
@@ -156,7 +156,7 @@ def lent_rows(sources, most):
         named = next((row[3] for row in rows if row[:3] == asked), None)
         words = [word for row in rows for word in row]
         left, operation, right = asked
-        cases.append(Case(f"rules-Table.rowsOf {written.numbers(words)} {left} "
+        cases.append(Case(f"rules-Table.rows_of {written.numbers(words)} {left} "
                           f"{written.OPERATIONS[operation]} {right}",
                           written.optional(named), f"rows {rows}, asked {asked}"))
     return sheets_of("LentRows", cases, 100)

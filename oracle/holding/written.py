@@ -45,7 +45,7 @@ def truth(value):
 # ---- Exponents and dimensions.
 
 def integer(value):
-    return f"(pos {value})" if value >= 0 else f"(negℤ (pos {-value}))"
+    return f"(pos {value})" if value >= 0 else f"(neg_ℤ (pos {-value}))"
 
 
 def rational(numerator, denominator):
@@ -125,9 +125,9 @@ def refusal(answer):
     place, number = answer.place, answer.number
     if number in WITH_DIMENSIONS:
         pairs = list(zip(answer.values[0:-1:2], answer.values[1:-1:2]))
-        return f"withDims {place} {number} {rationals(pairs)} {answer.values[-1]}"
+        return f"with_dims {place} {number} {rationals(pairs)} {answer.values[-1]}"
     if number in WITH_TWINS:
-        return f"withTwins {place} {number} {answer.values[0]} {numbers(answer.twins)}"
+        return f"with_twins {place} {number} {answer.values[0]} {numbers(answer.twins)}"
     return f"plainly {place} {number} {numbers(answer.values)}"
 
 
