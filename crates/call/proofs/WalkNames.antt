@@ -1,10 +1,10 @@
 -- A refusal in a formula names its twins: each step's does, so the walk's does. Assumes nothing.
-use Prim.Native.Nat.{ℕ, suc, ◌≤◌}
+use Prim.Native.Nat.{ℕ, suc}
 use mathlib.Core.Path.{◌≡◌, refl}
 use mathlib.Core.Bool.{Bool, true, false, cond}
 use mathlib.Core.List.{List, [], ◌∷◌}
-use mathlib.Core.Option.{Option, some, none}
-use borrow.Author.Tests.{le-ltb}
+use Rattle.std.specs.declared.option.Option.{Option}
+use Rattle.std.specs.declared.option.Option.TheVariants.{None, Some}
 use lib.Dec.{ltb}
 use lib.ListN.{length}
 use Rattle.laws.specs.Options.{found}
@@ -12,15 +12,13 @@ use Rattle.laws.specs.Out.{given, refused, mapped, refuse_if}
 use Rattle.dimension.specs.declared.grade.ProductOp.TheVariants.{Mul, Div, Dot, Wedge}
 use Rattle.rules.specs.Kinds.{Kinds, Rows, point}
 use Rattle.rules.specs.Refusal as why
-use Rattle.rules.specs.Refusal.{Refusal, Answer, Placed, told, twins_after}
+use Rattle.rules.specs.Refusal.{Refusal, Answer, Placed, told}
 use Rattle.rules.specs.Arithmetic as arithmetic
 use Rattle.rules.specs.Formula as rule
 use Rattle.rules.specs.Token.{tokens_in, good_length}
 use Rattle.rules.specs.Call.{ending, formula_in}
-use Rattle.fitting.specs.Shown.{room_listed}
-use Rattle.lookup.specs.Shown.{named, name_of, twins_of}
-use Rattle.lookup.proofs.NamedTwins.{Names, names_next, if_names, indexed_names, agree_names, combine_names, power_names}
-use Rattle.formula.specs.Shown.{termed}
+use Rattle.lookup.specs.Shown.{named, twins_of}
+use Rattle.lookup.proofs.NamedTwins.{Names, PlacedNames, names_next, if_names, indexed_names, agree_names, combine_names, power_names}
 
 module _ (K : Kinds) where
   mapped_names : {A B : Type 0} (f : A → B) (m : Answer A) → Names K m → Names K (mapped f m)
@@ -37,8 +35,8 @@ module _ (K : Kinds) where
 
   one_names : (u : rule.Unary) (k : ℕ) → Names K (rule.one_kind K u k)
   unfolding rule.one_kind
-  one_names (rule.exact e) k = power_names K 8 k (some e)
-  one_names rule.inexact k = power_names K 9 k none
+  one_names (rule.exact e) k = power_names K 8 k (Some e)
+  one_names rule.inexact k = power_names K 9 k None
   one_names rule.absolute k = scaled_names 10 k
 
   unary_names : (u : rule.Unary) (a : rule.Term) → Names K (rule.unary_term K u a)
@@ -67,7 +65,7 @@ module _ (K : Kinds) (R : Rows) where
   binary_names b (rule.Kind l) (rule.Kind r) = mapped_names K rule.Kind (rule.two_kinds K R b l r) (two_names b l r)
   binary_names b (rule.Kind k) rule.Number = mapped_names K rule.Kind (rule.with_number K b k (arithmetic.scaled K 5 k)) (number_names K b k (arithmetic.scaled K 5 k) (scaled_names K 5 k))
   binary_names b rule.Number (rule.Kind k) =
-      mapped_names K rule.Kind (rule.with_number K b k (arithmetic.power K 5 k (some rule.minus_one))) (number_names K b k (arithmetic.power K 5 k (some rule.minus_one)) (power_names K 5 k (some rule.minus_one)))
+      mapped_names K rule.Kind (rule.with_number K b k (arithmetic.power K 5 k (Some rule.minus_one))) (number_names K b k (arithmetic.power K 5 k (Some rule.minus_one)) (power_names K 5 k (Some rule.minus_one)))
 
   -- ---- a step, and the walk
   abbrev StepNames : rule.Step Refusal rule.Term → Type 0
@@ -125,31 +123,20 @@ module _ (K : Kinds) (R : Rows) where
       go ih rule.bad q = tt
 
   -- ---- the formula of some bytes
-  abbrev pub PlacedNames : Placed rule.Term → Type 0
-  PlacedNames (given t) = Unit {0}
-  PlacedNames (refused f) = Names {A = rule.Term} K (refused f.refusal)
-
-  ending_names : (o : rule.Ended Refusal rule.Term) → EndNames o → PlacedNames (ending o)
+  ending_names : (o : rule.Ended Refusal rule.Term) → EndNames o → PlacedNames K (ending o)
   unfolding named twins_of told
   ending_names (rule.answered t) p = tt
   ending_names (rule.stopped q x) p = p
   ending_names (rule.malformed q) p = refl
 
   found_names : (o : Option ℕ) (w : rule.Ended Refusal rule.Term) → EndNames w → EndNames (found o rule.malformed w)
-  found_names (some p) w q = tt
-  found_names none w q = q
+  found_names (Some p) w q = tt
+  found_names None w q = q
 
-  pub formula_names : (bytes : List ℕ) → PlacedNames (formula_in K R bytes)
+  pub formula_names : (bytes : List ℕ) → PlacedNames K (formula_in K R bytes)
   unfolding formula_in rule.formula
   formula_names bytes = go (good_length bytes)
     where
-      go : (b : Bool) → PlacedNames (ending (cond b (found (rule.malformed_at (tokens_in bytes)) rule.malformed (rule.walk (rule.terms K R) (tokens_in bytes) 0 [])) (rule.malformed 0)))
+      go : (b : Bool) → PlacedNames K (ending (cond b (found (rule.malformed_at (tokens_in bytes)) rule.malformed (rule.walk (rule.terms K R) (tokens_in bytes) 0 [])) (rule.malformed 0)))
       go true = ending_names (found (rule.malformed_at (tokens_in bytes)) rule.malformed (rule.walk (rule.terms K R) (tokens_in bytes) 0 [])) (found_names (rule.malformed_at (tokens_in bytes)) _ (walk_names (tokens_in bytes) 0 []))
       go false = ending_names (rule.malformed 0) tt
-
-  -- ---- so the lent list is as the rules say
-  pub listed_after : (m : Placed rule.Term) (old : List ℕ) {new : List ℕ} → 240 ≤ length old → PlacedNames m → new ≡ room_listed (twins_of K (name_of (termed m).verdict)) old → new ≡ twins_after m old
-  unfolding termed name_of twins_of room_listed twins_after
-  listed_after (given rule.Number) old h p e = rw (le-ltb (length old) 240 h) at e
-  listed_after (given (rule.Kind k)) old h p e = rw (le-ltb (length old) 240 h) at e
-  listed_after (refused f) old h p e = rw (le-ltb (length old) 240 h, p) at e

@@ -6,34 +6,25 @@ ghost use Rattle.rules.specs.Refusal.{twins_after};
 ghost use Rattle.rules.specs.Call as rule;
 ghost use Rattle.formula.specs.Shown.{termed};
 
-use error::{Answer, Error, refused};
-use formula::run;
-use lookup::list_twins;
-use valid::{are_rows, is_table};
+use error::Fault;
+use formula::{Term, run};
+use lookup::{check_lent, list_twins};
 
-// The entries of a twin list.
-const TWINS: usize = 240;
+// 5, 40 at 0, and then what the formula comes to.
+#[tactic(auto, using(crate::proofs::Ordered::ordered))]
+fn answered(table: &[u32], rows: &[u32], twins: &[u16], bytes: &[u8]) -> Result<Term, Fault>
+    ensures { result ≡ termed (rule.call table.now rows.now twins.now bytes.now) }
+{
+    check_lent(table, rows, twins).map_err(|e| e.at(0))?;
+    run(table, rows, bytes)
+}
 
-pub fn call(table: &[u32], rows: &[u32], twins: &mut [u16], bytes: &[u8]) -> Answer
+#[tactic(auto, using(crate::proofs::Ordered::ordered))]
+pub fn call(table: &[u32], rows: &[u32], twins: &mut [u16], bytes: &[u8]) -> Result<Term, Fault>
     ensures value { result ≡ termed (rule.call table.now rows.now twins.old bytes.now) }
     ensures twins_after { twins.new ≡ twins_after (rule.call table.now rows.now twins.old bytes.now) twins.old }
 {
-    let n = table.len();
-    if n < 9296 {
-        return refused(Error::Short(n), 0);
-    }
-    let m = twins.len();
-    if m < TWINS {
-        return refused(Error::Short(m), 0);
-    }
-    if !is_table(table) {
-        return refused(Error::NoTable, 0);
-    }
-    if !are_rows(table, rows) {
-        return refused(Error::NoTable, 0);
-    }
-    let answer = run(table, rows, bytes);
-    let verdict = answer.verdict;
-    list_twins(table, verdict, twins);
+    let answer = answered(table, rows, twins, bytes);
+    list_twins(table, answer, twins);
     answer
 }

@@ -1,12 +1,18 @@
 -- An id is blank, and two ids are the same, just where each byte says so. Assumes nothing.
-use Prim.Native.Nat.{ℕ, zero, suc, ◌+◌}
-use mathlib.Core.Path.{◌≡◌, refl, sym, ◌∙◌}
+use Prim.Native.Nat.{ℕ, zero, suc, ◌+◌, ◌<◌, ◌≤◌}
+use mathlib.Core.Path.{◌≡◌, refl, sym, ◌∙◌, ap, ap₂, subst}
 use mathlib.Core.Bool.{Bool, true, false, ◌&&◌}
 use mathlib.Core.List.{List, [], ◌∷◌, ◌++◌}
+use Rattle.std.specs.declared.option.Option.{Option}
+use Rattle.std.specs.declared.option.Option.TheVariants.{None, Some}
 use lib.Dec.{eqb}
-use lib.ListN.{length}
+use lib.ListN.{length, take, drop}
+use native.Mathlib.Omega.{arith}
+use Rattle.std.proofs.lemmas.List.{length-take-le, take_all, ext_get_or, get_or-take, get_or-drop}
+use Rattle.std.specs.Option.{IfSome, MatchOption}
+use Rattle.std.specs.Array.{IsFirstChunk}
 use Rattle.laws.specs.Ranges.{all, tab}
-use Rattle.laws.proofs.Tab.{length_tab}
+use Rattle.laws.proofs.Tab.{length_tab, tab_at}
 use Rattle.rules.specs.Bytes.{byte}
 use Rattle.rules.specs.Catalog.{blank, same, id_at}
 use Rattle.catalog.specs.Shown.{byte_zero, bytes_alike}
@@ -48,6 +54,33 @@ module _ (s : List ℕ) (p : ℕ) where
   unfolding id_at byte_zero
   blank_id = blank_tab (λ i. byte s (p + i)) 32
 
-  pub same_ids : (q : ℕ) → same (id_at s p) (id_at s q) ≡ all (bytes_alike s p q) 32
+  pub same_ids : (t : List ℕ) (q : ℕ) → same (id_at s p) (id_at t q) ≡ all (bytes_alike s p t q) 32
   unfolding id_at bytes_alike
-  same_ids q = same_tab (λ i. byte s (p + i)) (λ i. byte s (q + i)) 32
+  same_ids t q = same_tab (λ i. byte s (p + i)) (λ i. byte t (q + i)) 32
+
+  -- 32 bytes cut out are the id
+  pub id_cut : 32 ≤ length (drop p s) → take 32 (drop p s) ≡ id_at s p
+  unfolding id_at
+  id_cut h =
+      let l : length (take 32 (drop p s)) ≡ 32 = length-take-le 32 (drop p s) h in
+      ext_get_or 0 _ _ (l ∙ sym (length_tab (λ i. byte s (p + i)) 32)) (λ i k.
+      let m : i < 32 = omega (arith, l) in
+      get_or-take 32 (drop p s) i 0 m ∙ get_or-drop p s i 0 ∙ sym (tab_at (λ i. byte s (p + i)) 32 i 0 m))
+
+-- d is what follows place p, o its first 32 bytes, if there are as many
+pub id_found : {X : Type 0} (now : X → List ℕ) (s : List ℕ) (p : ℕ) (o : Option X) {d : List ℕ} → d ≡ drop p s → MatchOption o (length d < 32) (λ y. IsFirstChunk d (now y) 32) → IfSome o (λ y. now y ≡ id_at s p)
+id_found now s p None e m = tt
+id_found now s p (Some y) e m = m.same ∙ ap (take 32) e ∙ id_cut s p (subst (λ l. 32 ≤ length l) e m.enough)
+
+-- ---- an id by itself
+id_whole : (a : List ℕ) → length a ≡ 32 → a ≡ id_at a 0
+id_whole a e =
+    let h : 32 ≤ length (drop 0 a) = omega (arith, e) in
+    let l : length a ≤ 32 = omega (arith, e) in
+    sym (take_all 32 a l) ∙ id_cut a 0 h
+
+pub blank_whole : (a : List ℕ) {v : Bool} → length a ≡ 32 → v ≡ all (byte_zero a 0) 32 → v ≡ blank a
+blank_whole a e q = q ∙ sym (blank_id a 0) ∙ ap blank (sym (id_whole a e))
+
+pub same_whole : (a b : List ℕ) {v : Bool} → length a ≡ 32 → length b ≡ 32 → v ≡ all (bytes_alike a 0 b 0) 32 → v ≡ same a b
+same_whole a b e f q = q ∙ sym (same_ids a 0 b 0) ∙ ap₂ same (sym (id_whole a e)) (sym (id_whole b f))

@@ -3,9 +3,9 @@ use Prim.Native.Nat.{ℕ, zero, suc, ◌+◌, ◌*◌, ◌<◌, ◌≤◌}
 use mathlib.Core.Path.{◌≡◌, refl, sym, ◌∙◌, ap, ap₂}
 use mathlib.Core.Bool.{Bool, true, false, cond, ◌&&◌}
 use mathlib.Core.List.{List}
-use mathlib.Core.Option.{some, none}
+use Rattle.std.specs.declared.option.Option.TheVariants.{None, Some}
 use native.Mathlib.Omega.{arith}
-use borrow.Author.Tests.{lt-ltb, le-ltb, le-leb, lt-leb, ltb-true, leb-true, leb-false, eqb-true, eq-eqb}
+use borrow.Author.Tests.{le-leb, lt-leb, ltb-true, leb-true, leb-false, eqb-true, eq-eqb}
 use lib.Dec.{eqb, ltb, leb}
 use lib.ListN.{length, get_or, replicate, get_or-append}
 use Rattle.laws.specs.Options.{or_else}
@@ -17,25 +17,11 @@ use Rattle.laws.proofs.Overlay.{overlay_length}
 use Rattle.laws.proofs.Tab.{length_tab, tab_at}
 use Rattle.rules.specs.Bytes.{byte, le2}
 use Rattle.rules.specs.Layout.{kind_count}
-use Rattle.rules.specs.Catalog.{blank, same, id_at, kind_at, kind_from, catalog_in, find, link}
-use Rattle.error.specs.Shown.{linked}
-use Rattle.error.specs.declared.answer.Link.{Link}
-use Rattle.error.specs.declared.answer.Link.TheVariants.{To, Nowhere}
+use Rattle.rules.specs.Catalog.{same, id_at, kind_at, kind_from, catalog_in, find, link}
 use Rattle.catalog.specs.Shown.{bytes_alike}
 use Rattle.catalog.specs.Keys.{key_part, key_at, kind_key, key_count, keys_in, key_fits, named_by, find_by, link_by}
 use Rattle.catalog.proofs.Alike.{same_ids}
 use Rattle.catalog.proofs.Found.{kind_in_law}
-
--- ---- how many keys
-pub count_all : (s : List ℕ) {n v : ℕ} → n ≡ kind_count s → n < 240 → v ≡ n → v ≡ key_count s
-unfolding key_count
-count_all s e h q = let l : kind_count s < 240 = omega arith in rw (lt-ltb (kind_count s) 240 l) (q ∙ e)
-
-pub count_most : (s : List ℕ) {n v : ℕ} → n ≡ kind_count s → 240 ≤ n → v ≡ 240 → v ≡ key_count s
-unfolding key_count
-count_most s e h q = let l : 240 ≤ kind_count s = omega arith in rw (le-ltb (kind_count s) 240 l) q
-
-pub ruleset counts = (count_all, count_most)
 
 -- ---- a key in a list
 pub fits_past_law : (keys : List ℕ) (key k : ℕ) {v : Bool} → length keys ≤ k → v ≡ true → v ≡ key_fits keys key k
@@ -46,56 +32,27 @@ pub fits_listed : (keys : List ℕ) (key k : ℕ) {v : Bool} → k < length keys
 unfolding key_fits
 fits_listed keys key k h q = rw (lt-leb (length keys) k h) q
 
-pub ruleset fitting = (fits_past_law, fits_listed)
-
--- ---- a kind by key and id, and the first such
-module _ (s keys : List ℕ) (p key k : ℕ) {b v : Bool} (e : b ≡ key_fits keys key k) where
-  pub named_fits : b ≡ true → v ≡ same ((catalog_in s).kind k).id (id_at s p) → v ≡ named_by s keys p key k
-  unfolding named_by
-  named_fits t q = rw (sym e ∙ t) q
-
-  pub named_not : b ≡ false → v ≡ false → v ≡ named_by s keys p key k
-  unfolding named_by
-  named_not t q = rw (sym e ∙ t) q
-
-pub ruleset named = (named_fits, named_not)
-
 -- ---- kinds passed over: none of the first k has the key
-nowhere : (test : ℕ → Bool) (n : ℕ) → ((i : ℕ) → i < n → test i ≡ false) → first test n ≡ none
+nowhere : (test : ℕ → Bool) (n : ℕ) → ((i : ℕ) → i < n → test i ≡ false) → first test n ≡ None
 unfolding first
 nowhere test zero h = refl
 nowhere test (suc n) h = rw (first, nowhere test n (λ i l. h i (omega arith)), h n (omega arith))
 
 module _ (keys : List ℕ) (key : ℕ) where
-  pub over_next : (k : ℕ) → first (key_fits keys key) k ≡ none → first_from (key_fits keys key) k 16 ≡ none → first (key_fits keys key) (k + 16) ≡ none
+  pub over_next : (k : ℕ) → first (key_fits keys key) k ≡ None → first_from (key_fits keys key) k 16 ≡ None → first (key_fits keys key) (k + 16) ≡ None
   over_next k e f =
       sym (from_start (key_fits keys key) (k + 16)) ∙ from_split (key_fits keys key) 0 k 16
       ∙ ap₂ or_else (from_start (key_fits keys key) k ∙ e) (let z : 0 + k ≡ k = omega arith in rw z f)
 
   -- nor the key and the id
-  pub over_named : (s : List ℕ) (p k : ℕ) → first (key_fits keys key) k ≡ none → first (named_by s keys p key) k ≡ none
+  pub over_named : (s : List ℕ) (p k : ℕ) → first (key_fits keys key) k ≡ None → first (named_by s keys p key) k ≡ None
   unfolding named_by
   over_named s p k e = nowhere (named_by s keys p key) k (λ i h. rw (first_misses (key_fits keys key) k i e h))
 
 module _ (s keys : List ℕ) (p : ℕ) {key n : ℕ} (a : key ≡ key_at s p) (c : n ≡ kind_count s) where
-  pub by_here : (k : ℕ) → first (named_by s keys p key) n ≡ some k → To k ≡ linked (find_by s keys p)
+  pub by_here : (k : ℕ) → first (named_by s keys p key) n ≡ Some k → Some k ≡ find_by s keys p
   unfolding find_by
   by_here k e = rw (← a, ← c, e)
-
-  pub by_end : first (named_by s keys p key) n ≡ none → Nowhere ≡ linked (find_by s keys p)
-  unfolding find_by
-  by_end e = rw (← a, ← c, e)
-
-module _ (s keys : List ℕ) (p : ℕ) {v : Link} {b : Bool} where
-  pub by_blank : b ≡ true → b ≡ blank (id_at s p) → v ≡ Nowhere → v ≡ linked (link_by s keys p)
-  unfolding link_by
-  by_blank t e h = rw (sym e ∙ t) h
-
-  pub by_declared : b ≡ false → b ≡ blank (id_at s p) → v ≡ linked (find_by s keys p) → v ≡ linked (link_by s keys p)
-  unfolding link_by
-  by_declared t e h = rw (sym e ∙ t) h
-
-pub ruleset links_by = (by_blank, by_declared)
 
 -- ---- equal ids have equal keys
 sum_same : (f g : ℕ → ℕ) (n : ℕ) → ((k : ℕ) → k < n → f k ≡ g k) → sum f n ≡ sum g n
@@ -103,22 +60,30 @@ unfolding sum
 sum_same f g zero h = refl
 sum_same f g (suc n) h = ap₂ (λ (x y : ℕ). x + y) (sum_same f g n (λ k l. h k (omega arith))) (h n (omega arith))
 
-module _ (s : List ℕ) (p q : ℕ) (e : same (id_at s p) (id_at s q) ≡ true) where
-  bytes_same : (i : ℕ) → i < 32 → byte s (p + i) ≡ byte s (q + i)
-  unfolding bytes_alike
-  bytes_same i h = eqb-true (byte s (p + i)) (byte s (q + i)) (all_at (bytes_alike s p q) 32 i (sym (same_ids s p q) ∙ e) h)
-
-  parts_same : (i : ℕ) → i < 16 → key_part s p i ≡ key_part s q i
+module _ (s t : List ℕ) (p q : ℕ) (e : (i : ℕ) → i < 32 → byte s (p + i) ≡ byte t (q + i)) where
+  parts_same : (i : ℕ) → i < 16 → key_part s p i ≡ key_part t q i
   unfolding key_part le2
   parts_same i h =
-      let a : byte s (p + 2 * i) ≡ byte s (q + 2 * i) = bytes_same (2 * i) (omega arith) in
+      let a : byte s (p + 2 * i) ≡ byte t (q + 2 * i) = e (2 * i) (omega arith) in
       let x : p + 2 * i + 1 ≡ p + (2 * i + 1) = omega arith in
       let y : q + 2 * i + 1 ≡ q + (2 * i + 1) = omega arith in
-      rw (x, y, a, bytes_same (2 * i + 1) (omega arith))
+      rw (x, y, a, e (2 * i + 1) (omega arith))
 
-  pub keys_same : key_at s p ≡ key_at s q
+  key_alike : key_at s p ≡ key_at t q
   unfolding key_at
-  keys_same = sum_same (key_part s p) (key_part s q) 16 parts_same
+  key_alike = sum_same (key_part s p) (key_part t q) 16 parts_same
+
+keys_same : (s : List ℕ) (p q : ℕ) → same (id_at s p) (id_at s q) ≡ true → key_at s p ≡ key_at s q
+unfolding bytes_alike
+keys_same s p q e = key_alike s s p q (λ i h. eqb-true (byte s (p + i)) (byte s (q + i)) (all_at (bytes_alike s p s q) 32 i (sym (same_ids s p s q) ∙ e) h))
+
+-- the key of an id cut out
+pub key_there : (s : List ℕ) (p : ℕ) {a : List ℕ} {v : ℕ} → a ≡ id_at s p → v ≡ key_at a 0 → v ≡ key_at s p
+unfolding id_at
+key_there s p {a} e q =
+    q ∙ key_alike a s 0 p (λ i h.
+    let z : 0 + i ≡ i = omega arith in
+    ap (byte a) z ∙ ap (λ (l : List ℕ). byte l i) e ∙ tab_at (λ i. byte s (p + i)) 32 i 0 h)
 
 -- ---- an image's own keys
 count_below : (s : List ℕ) (k : ℕ) → k < kind_count s → k < 240 → k < key_count s

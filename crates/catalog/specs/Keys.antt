@@ -1,6 +1,7 @@
 -- Keys of ids: equal ids have equal keys, so an id need only be compared where the keys agree.
 use Rattle.std.specs.Prelude.{ℕ, ◌+◌, ◌*◌, Bool, cond, ◌&&◌, ◌||◌, List, eqb, ltb, leb, length, get_or, replicate}
-use Rattle.std.proofs.Math.Option.{Option, none}
+use Rattle.std.specs.declared.option.Option.{Option}
+use Rattle.std.specs.declared.option.Option.TheVariants.{None}
 use Rattle.laws.specs.Ranges.{first, sum, tab, overlay}
 use Rattle.rules.specs.Bytes.{le2}
 use Rattle.rules.specs.Layout.{kind_count}
@@ -38,4 +39,4 @@ find_by s keys p = first (named_by s keys p (key_at s p)) (kind_count s)
 
 -- what it names if it is declared
 unfoldable pub link_by : List ℕ → List ℕ → ℕ → Option ℕ
-link_by s keys p = cond (blank (id_at s p)) none (find_by s keys p)
+link_by s keys p = cond (blank (id_at s p)) None (find_by s keys p)

@@ -6,6 +6,6 @@ use Rattle.rules.specs.Bytes.{byte}
 unfoldable pub byte_zero : List ℕ → ℕ → ℕ → Bool
 byte_zero s p i = eqb (byte s (p + i)) 0
 
--- byte i of the ids at p and q is the same
-unfoldable pub bytes_alike : List ℕ → ℕ → ℕ → ℕ → Bool
-bytes_alike s p q i = eqb (byte s (p + i)) (byte s (q + i))
+-- byte i of the ids at p in s and at q in t is the same
+unfoldable pub bytes_alike : List ℕ → ℕ → List ℕ → ℕ → ℕ → Bool
+bytes_alike s p t q i = eqb (byte s (p + i)) (byte t (q + i))

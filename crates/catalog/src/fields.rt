@@ -8,17 +8,14 @@ ghost use Rattle.dimension.specs.Dimension as D;
 ghost use Rattle.rules.specs.Kinds.{op_of};
 ghost use Rattle.rules.specs.Catalog.{or_zero, exponent_at, kind_from, row_from};
 
-use dimension::{Dimensions, ProductOp, Ratio, Rational, ZERO, signed16};
+use dimension::{Dimensions, ProductOp, Rational, ZERO, signed16};
 use numbers::{byte_at, u16_at};
 
 // num / den in lowest terms; what is no fraction reads as absent.
 fn fraction(num: i32, den: u32) -> Rational
     ensures { result ≡ or_zero (F.answer num den) }
 {
-    match Rational::new(num, den) {
-        Ratio::Is(e) => e,
-        Ratio::Over => ZERO,
-    }
+    Rational::new(num, den).unwrap_or(ZERO)
 }
 
 // An exponent from its two fields.
@@ -29,6 +26,7 @@ fn exponent(num: u16, den: u16) -> Rational
 }
 
 // Exponent b of the kind at p.
+#[tactic(auto, unfolding(rules::specs::Catalog::exponent_at))]
 fn exponent_at(image: &[u8], p: u32, b: usize) -> Rational
     requires { b < 12 }
     ensures { result ≡ exponent_at image.now (p + 96 + 4 * b) }
@@ -42,15 +40,14 @@ fn exponents_at(image: &[u8], p: u32) -> Dimensions
     ensures { result ≡ D.dimensions (tab (λ b. exponent_at image.now (p + 96 + 4 * b)) 12) }
 {
     let mut powers = [ZERO; 12];
-    let mut b: usize = 0;
-    while b < 12 {
+    for b in 0..12 {
         powers[b] = exponent_at(image, p, b);
-        b += 1;
     }
     Dimensions { powers }
 }
 
 // Whether the kind at p declares dimensions.
+#[tactic(auto, unfolding(rules::specs::Catalog::kind_from, rules::specs::Catalog::dims_at))]
 pub fn is_given(image: &[u8], p: u32) -> bool
     ensures { result ≡ is_some (kind_from image.now p).dims }
 {
@@ -58,6 +55,7 @@ pub fn is_given(image: &[u8], p: u32) -> bool
 }
 
 // The dimensions of the kind at p; dimension one where they are unresolved.
+#[tactic(auto, unfolding(rules::specs::Catalog::kind_from, rules::specs::Catalog::dims_at))]
 pub fn dims_at(image: &[u8], p: u32) -> Dimensions
     ensures { result ≡ found (kind_from image.now p).dims (λ d. d) D.one }
 {
@@ -67,6 +65,7 @@ pub fn dims_at(image: &[u8], p: u32) -> Dimensions
     Dimensions::one()
 }
 
+#[tactic(auto, unfolding(rules::specs::Catalog::kind_from))]
 pub fn grade_at(image: &[u8], p: u32) -> u8
     ensures { result ≡ (kind_from image.now p).grade }
 {
@@ -74,6 +73,7 @@ pub fn grade_at(image: &[u8], p: u32) -> u8
 }
 
 // The operation of a row: 0 Mul, 1 Div, 2 Dot, 3 Wedge.
+#[tactic(auto, unfolding(rules::specs::Kinds::op_of))]
 fn op_of(code: u8) -> ProductOp
     ensures { result ≡ op_of code }
 {
@@ -85,12 +85,14 @@ fn op_of(code: u8) -> ProductOp
     }
 }
 
+#[tactic(auto, unfolding(rules::specs::Catalog::row_from))]
 pub fn op_at(image: &[u8], p: u32) -> ProductOp
     ensures { result ≡ (row_from image.now p).op }
 {
     op_of(byte_at(image, p as usize + 96))
 }
 
+#[tactic(auto, unfolding(rules::specs::Catalog::row_from))]
 pub fn is_commutative(image: &[u8], p: u32) -> bool
     ensures { result ≡ (row_from image.now p).commutative }
 {

@@ -1,15 +1,13 @@
 // Keys of ids. Ids that differ mostly have different keys, so that most of them are told apart by one comparison; all kinds' keys are made once.
 ghost use Rattle.std.specs.Prelude.{◌≡◌, ◌+◌, ◌<◌, ◌≤◌, length};
-ghost use Rattle.std.proofs.Math.Option.{none};
+ghost use Rattle.std.specs.declared.option.Option.TheVariants.{None};
 ghost use Rattle.laws.specs.Options.{is_some};
 ghost use Rattle.laws.specs.Ranges.{first, first_from};
 ghost use Rattle.rules.specs.Layout as layout;
-ghost use Rattle.error.specs.Shown.{linked};
 ghost use Rattle.catalog.specs.Keys.{key_part, key_at, kind_key, key_count, keys_in, key_fits, named_by, find_by, link_by};
 
-use crate::ids::{blank_at, names};
+use crate::ids::{blank_at, id_of, names};
 use crate::records::{kind_count, kind_place};
-use error::Link;
 use numbers::u16_at;
 
 // The keys of the kinds, zeros past them.
@@ -19,6 +17,7 @@ pub struct Keys {
 }
 
 // What 16-bit number i of the id at p adds to its key: by its place, so that ids of the same numbers in another order differ.
+#[tactic(auto, unfolding(crate::specs::Keys::key_part))]
 fn key_part(image: &[u8], p: u32, i: usize) -> u32
     requires { i < 16 }
     ensures value { result ≡ key_part image.now p i }
@@ -27,49 +26,46 @@ fn key_part(image: &[u8], p: u32, i: usize) -> u32
     (i as u32 + 1) * (u16_at(image, p as usize + 2 * i) as u32)
 }
 
-// The same of an id that lies within the image.
-fn part_within(image: &[u8], p: usize, i: usize) -> u32
-    requires p_in_bounds { p + 32 ≤ length image.now }
-    requires i_bound { i < 16 }
-    ensures value { result ≡ key_part image.now p i }
+// The same of an id that is there.
+#[tactic(auto, unfolding(crate::specs::Keys::key_part, rules::specs::Bytes::le2))]
+fn part_of(id: &[u8; 32], i: usize) -> u32
+    requires { i < 16 }
+    ensures value { result ≡ key_part id.now 0 i }
     ensures upper_bound { result ≤ 1048560 }
 {
-    let low = image[p + 2 * i] as u32;
-    let high = image[p + 2 * i + 1] as u32;
+    let low = id[2 * i] as u32;
+    let high = id[2 * i + 1] as u32;
     (i as u32 + 1) * (low + 256 * high)
 }
 
-fn key_within(image: &[u8], p: usize) -> u32
-    requires { p + 32 ≤ length image.now }
-    ensures { result ≡ key_at image.now p }
+#[tactic(auto, using(laws::proofs::Sum::sums), unfolding(crate::specs::Keys::key_at))]
+fn key_of(id: &[u8; 32]) -> u32
+    ensures { result ≡ key_at id.now 0 }
 {
     let mut key: u32 = 0;
-    let mut i: usize = 0;
-    while i < 16 {
-        key += part_within(image, p, i);
-        i += 1;
+    for i in 0..16 {
+        key += part_of(id, i);
     }
     key
 }
 
 // The key of the id at p.
+#[tactic(auto, using(laws::proofs::Sum::sums, crate::proofs::Keyed::key_there), unfolding(crate::specs::Keys::key_at))]
 pub fn key_at(image: &[u8], p: u32) -> u32
     ensures { result ≡ key_at image.now p }
 {
-    let at = p as usize;
-    if at + 32 <= image.len() {
-        return key_within(image, at);
+    if let Some(id) = id_of(image, p) {
+        return key_of(id);
     }
     let mut key: u32 = 0;
-    let mut i: usize = 0;
-    while i < 16 {
+    for i in 0..16 {
         key += key_part(image, p, i);
-        i += 1;
     }
     key
 }
 
 // The key of kind k.
+#[tactic(auto, unfolding(crate::specs::Keys::kind_key))]
 fn kind_key(image: &[u8], k: u16) -> u32
     ensures { result ≡ kind_key image.now k }
 {
@@ -77,15 +73,12 @@ fn kind_key(image: &[u8], k: u16) -> u32
 }
 
 // How many kinds have their key listed.
+#[tactic(auto, unfolding(crate::specs::Keys::key_count))]
 fn key_count(image: &[u8]) -> u16
     ensures value { result ≡ key_count image.now }
     ensures upper_bound { result ≤ 240 }
 {
-    let n = kind_count(image);
-    if n < 240 {
-        return n;
-    }
-    240
+    kind_count(image).min(240)
 }
 
 // The keys of the first 240 kinds.
@@ -95,15 +88,14 @@ pub fn keys_of(image: &[u8]) -> Keys
 {
     let n = key_count(image);
     let mut words = [0u32; 240];
-    let mut k: u16 = 0;
-    while k < n {
+    for k in 0..n {
         words[k as usize] = kind_key(image, k);
-        k += 1;
     }
     Keys { words }
 }
 
 // Whether kind k has this key, by the list; past its end it may have any.
+#[tactic(auto, unfolding(crate::specs::Keys::key_fits))]
 fn fits(keys: &[u32], key: u32, k: u16) -> bool
     ensures { result ≡ key_fits keys.now key k }
 {
@@ -115,71 +107,64 @@ fn fits(keys: &[u32], key: u32, k: u16) -> bool
 }
 
 // Whether kind k has this key and the id at p.
+#[tactic(auto, unfolding(crate::specs::Keys::named_by))]
 fn named_by(image: &[u8], keys: &[u32], p: u32, key: u32, k: u16) -> bool
     requires { k < layout.kind_count image.now }
     ensures { result ≡ named_by image.now keys.now p key k }
 {
-    if fits(keys, key, k) {
-        return names(image, k, p);
-    }
-    false
+    fits(keys, key, k) && names(image, k, p)
 }
 
 // Whether one of the sixteen keys from place `from` on, all of them there, is this one. None of them ends the loop, so that several are compared at
 // once.
+#[tactic(auto, using(laws::proofs::FirstFrom::anys), unfolding(crate::specs::Keys::key_fits))]
 fn any_of_sixteen(keys: &[u32], from: usize, key: u32) -> bool
     requires { from + 16 ≤ length keys.now }
     ensures { result ≡ is_some (first_from (key_fits keys.now key) from 16) }
 {
     let mut any = false;
-    let mut i: usize = 0;
-    while i < 16 {
+    for i in 0..16 {
         any = any | (keys[from + i] == key);
-        i += 1;
     }
     any
 }
 
 // How many of the n kinds, sixteen at a time, are passed over: none of them has this key.
 fn passed_over(keys: &[u32], key: u32, n: u16) -> u16
-    ensures { (result ≤ n) × (first (key_fits keys.now key) result ≡ none) }
+    ensures { (result ≤ n) × (first (key_fits keys.now key) result ≡ None) }
 {
-    let mut k: u16 = 0;
-    while k as u32 + 16 <= n as u32 {
+    for block in 0..n / 16 {
+        let k = 16 * block;
         let from = k as usize;
-        if keys.len() < from + 16 {
+        if keys.len() < from + 16 || any_of_sixteen(keys, from, key) {
             return k;
         }
-        if any_of_sixteen(keys, from, key) {
-            return k;
-        }
-        k += 16;
     }
-    k
+    16 * (n / 16)
 }
 
 // The first kind of the id at p, among those whose key in the list is that of the id.
-pub fn find_by(image: &[u8], keys: &[u32], p: u32) -> Link
-    ensures { result ≡ linked (find_by image.now keys.now p) }
+#[tactic(auto, using(laws::proofs::First::scan, crate::proofs::Keyed::over_named), unfolding(crate::specs::Keys::find_by))]
+pub fn find_by(image: &[u8], keys: &[u32], p: u32) -> Option<u16>
+    ensures { result ≡ find_by image.now keys.now p }
 {
     let key = key_at(image, p);
     let n = kind_count(image);
-    let mut k: u16 = passed_over(keys, key, n);
-    while k < n {
+    for k in passed_over(keys, key, n)..n {
         if named_by(image, keys, p, key, k) {
-            return Link::To(k);
+            return Some(k);
         }
-        k += 1;
     }
-    Link::Nowhere
+    None
 }
 
 // The kind that the id at p names, if it is declared, among those whose key in the list is that of the id.
-pub fn link_by(image: &[u8], keys: &[u32], p: u32) -> Link
-    ensures { result ≡ linked (link_by image.now keys.now p) }
+#[tactic(auto, unfolding(crate::specs::Keys::link_by))]
+pub fn link_by(image: &[u8], keys: &[u32], p: u32) -> Option<u16>
+    ensures { result ≡ link_by image.now keys.now p }
 {
     if blank_at(image, p) {
-        return Link::Nowhere;
+        return None;
     }
     find_by(image, keys, p)
 }

@@ -1,5 +1,3 @@
--- laws of runs, for the code
-mod EachReturn
 -- what the number that is said tells
 pub mod Said
 -- demand 3 of what two runs return

@@ -2,7 +2,7 @@
 use mathlib.Core.Path.{◌≡◌, sym, ◌∙◌, ap}
 use Rattle.rules.specs.Refusal.{Refusal, told}
 use Rattle.error.specs.Shown.{error_of, said_of}
-use Rattle.error.specs.declared.cause.Said.{Said}
+use Rattle.error.specs.declared.said.Said.{Said}
 use Rattle.error.proofs.Told.{said_told}
 use Rattle.guarantees.specs.Causes.{cause_by}
 use Rattle.guarantees.proofs.Causes.{number_tells, one_cause}

@@ -3,21 +3,21 @@ use Prim.Native.Nat.{ℕ}
 use mathlib.Core.Path.{◌≡◌, sym, ◌∙◌, ap}
 use mathlib.Core.Bool.{true}
 use mathlib.Core.List.{List}
+use Rattle.std.specs.declared.result.Result.TheVariants.{Ok, Err}
 use Rattle.laws.specs.Options.{is_some}
 use Rattle.dimension.specs.declared.grade.ProductOp.TheVariants.{Mul}
-use Rattle.rules.specs.Refusal.{Placed}
-use Rattle.rules.specs.Formula.{Term}
 use Rattle.rules.specs.Image.{compile_image}
 use Rattle.teaching.specs.Image.{image}
 use Rattle.teaching.proofs.Compiles.{compiled}
 use Rattle.guarantees.specs.LargerImage.{larger_image}
 use Rattle.guarantees.proofs.WithRow.{larger, premises_met, area_by_bore, row_there, twins_without}
-use Rattle.error.specs.declared.answer.Verdict.TheVariants.{Refused}
+use Rattle.guarantees.specs.Calls.{call_over}
+use Rattle.error.specs.Shown.{fault}
 use Rattle.error.specs.declared.cause.Error.TheVariants.{UnresolvedTwin}
 use Rattle.formula.specs.Shown.{termed}
 use Rattle.comparison.specs.declared.runs.Both.{Both}
-use Rattle.comparison.specs.declared.runs.Returned.{Returned}
-use Rattle.comparison.specs.Shown.{blank_table, blank_twins, both_of}
+use Rattle.comparison.specs.declared.runs.Called.{Called}
+use Rattle.comparison.specs.Shown.{blank_table, blank_twins, called, both_of}
 use Rattle.comparison.specs.Returned.{TwoImages, past_place, Demand3Returned}
 use Rattle.comparison.proofs.Demand3Returned.{long, enough, run_is, demand3_returned}
 
@@ -37,12 +37,21 @@ returned bytes r e = demand3_returned image larger_image compiled larger met byt
 
 -- "6×7 → 44 with 1, 5"
 module _ (r : Both) (e : r ≡ both_of image larger_image area_by_bore) where
-  pub twins_returned : r.small.answer.verdict ≡ Refused (UnresolvedTwin 6 4 7 2)
-  unfolding both_of termed
-  twins_returned =
-      ap (λ (b : Both). b.small.answer.verdict) e
-      ∙ ap (λ (b : Returned). b.answer.verdict) (run_is image area_by_bore compiled met.compiles)
-      ∙ ap (λ (m : Placed Term). (termed m).verdict) (twins_without blank_table blank_table blank_twins long long enough)
+  pub both : Demand3Returned compiled larger area_by_bore r
+  both = returned area_by_bore r e
 
-  pub lifted_returned : past_place r.small.answer.place r.large.answer.verdict r.large.answer.place ≡ true
-  lifted_returned = (returned area_by_bore r e).lifted 6 Mul 7 2 twins_returned ∙ ap (λ o. is_some o) row_there
+  -- what is returned of the smaller image is its call
+  small_is : r.small ≡ Ok (called (call_over image blank_table blank_twins area_by_bore))
+  unfolding both_of
+  small_is = ap (λ (b : Both). b.small) e ∙ run_is image area_by_bore compiled met.compiles
+
+  pub twins_returned : both.small.answer ≡ Err (fault 2 (UnresolvedTwin 6 Mul 7 2))
+  unfolding termed
+  twins_returned =
+      let z : r.small ≡ Ok both.small = both.ran_small in
+      let w : r.small ≡ Ok (called (call_over image blank_table blank_twins area_by_bore)) = small_is in
+      let v : both.small ≡ called (call_over image blank_table blank_twins area_by_bore) = cc in
+      ap (λ (b : Called). b.answer) v ∙ ap termed (twins_without blank_table blank_table blank_twins long long enough)
+
+  pub lifted_returned : past_place 2 both.large.answer ≡ true
+  lifted_returned = both.lifted 2 6 Mul 7 2 twins_returned ∙ ap (λ o. is_some o) row_there

@@ -3,4 +3,4 @@
 
 mod runs;
 
-pub use runs::{Both, Returned, run, run_both};
+pub use runs::{Both, Called, run, run_both};

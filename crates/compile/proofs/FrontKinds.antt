@@ -3,7 +3,8 @@ use Prim.Native.Nat.{ℕ, ◌+◌, ◌*◌, ◌<◌}
 use mathlib.Core.Path.{◌≡◌, refl, sym, ◌∙◌, ap, fun_ext}
 use mathlib.Core.Bool.{Bool, true, false, cond}
 use mathlib.Core.List.{List}
-use mathlib.Core.Option.{Option, some, none}
+use Rattle.std.specs.declared.option.Option.{Option}
+use Rattle.std.specs.declared.option.Option.TheVariants.{None, Some}
 use native.Mathlib.Omega.{arith}
 use borrow.Author.Tests.{ltb-true, ltb-false}
 use lib.Dec.{eqb, ltb}
@@ -32,7 +33,7 @@ module _ (t u : List ℕ) (n : ℕ) (c : kinds_in t ≡ n) (d : kinds_in u ≡ n
   dims_same k l = ap D.dimensions (tab_same (exponent_from t (16 + 32 * k)) (exponent_from u (16 + 32 * k)) 12 (λ b m. exponent_same k b l m))
 
   abbrev dims_in : List ℕ → ℕ → Option Dimensions
-  dims_in w k = cond (eqb (word w (16 + 32 * k + 24)) 1) (some (dims_from w (16 + 32 * k))) none
+  dims_in w k = cond (eqb (word w (16 + 32 * k + 24)) 1) (Some (dims_from w (16 + 32 * k))) None
 
   given_same : (k : ℕ) → k < n → dims_in t k ≡ dims_in u k
   given_same k l = rw (h (16 + 32 * k + 24) (omega arith), dims_same k l)
@@ -46,11 +47,11 @@ module _ (t u : List ℕ) (n : ℕ) (c : kinds_in t ≡ n) (d : kinds_in u ≡ n
   unfolding kinds_of
   kinds_same i = record {
     count = (c ∙ sym d) i;
-    dims = each_same none dims_in given_same i;
+    dims = each_same None dims_in given_same i;
     grade = each_same 0 (λ w k. word w (16 + 32 * k + 25)) (λ k l. h (16 + 32 * k + 25) (omega arith)) i;
-    difference = each_same none (λ w k. index_or (word w (16 + 32 * k + 27))) (λ k l. ap index_or (h (16 + 32 * k + 27) (omega arith))) i;
-    rate_of = each_same none (λ w k. index_or (word w (16 + 32 * k + 28))) (λ k l. ap index_or (h (16 + 32 * k + 28) (omega arith))) i;
-    rate = each_same none (λ w k. index_or (word w (16 + 32 * k + 29))) (λ k l. ap index_or (h (16 + 32 * k + 29) (omega arith))) i;
+    difference = each_same None (λ w k. index_or (word w (16 + 32 * k + 27))) (λ k l. ap index_or (h (16 + 32 * k + 27) (omega arith))) i;
+    rate_of = each_same None (λ w k. index_or (word w (16 + 32 * k + 28))) (λ k l. ap index_or (h (16 + 32 * k + 28) (omega arith))) i;
+    rate = each_same None (λ w k. index_or (word w (16 + 32 * k + 29))) (λ k l. ap index_or (h (16 + 32 * k + 29) (omega arith))) i;
     dimensionless = ap index_or (h 2 (omega arith)) i;
     time = ap index_or (h 3 (omega arith)) i;
   }

@@ -14,7 +14,7 @@ mod Neutral
 mod Rated
 -- and of rows: what their ids name, what the earlier ones enter, the rule over both
 mod RowSteps
-mod RowLinks
+mod RowAsked
 mod Prefix
 mod RowRule
 -- the whole: one stage after the other, over words that are read as what is declared

@@ -15,7 +15,13 @@ use Rattle.rules.specs.Table.{word, entries_of, entries_in, in_force}
 use Rattle.guarantees.proofs.RowRules.{Accepted}
 use Rattle.guarantees.proofs.Entries.{entries_are, in_four}
 use Rattle.compile.specs.declared.rows.Row.{Row}
-use Rattle.compile.specs.Rows.{row_of}
+use Rattle.compile.specs.Rows.{row_asked}
+use Rattle.compile.proofs.RowAsked.{asked_tells}
+use Rattle.laws.specs.Out.{given}
+use Rattle.std.specs.declared.option.Option.TheVariants.{Some}
+
+some_same : {m n : ℕ} → Some m ≡ Some n → m ≡ n
+some_same e = cc
 
 module _ (C : Catalog) where
   -- ---- m rows more: what is entered stays in front
@@ -69,12 +75,16 @@ module _ (C : Catalog) where
         go true p = rw (entries_are C i a true p)
         go false p = rw (entries_are C i a false p)
 
-    pub used_next : {used w : ℕ} {x : Row} → used ≡ length (entries_in C i) → x ≡ row_of C i → w ≡ cond (x.commutative && not (eqb x.left x.right)) 8 4
+    pub used_next : {used w : ℕ} {x : Row} → used ≡ length (entries_in C i) → row_asked C i ≡ given x → w ≡ cond (x.commutative && not (eqb x.left x.right)) 8 4
         → used + w ≡ length (entries_in C (i + 1))
-    unfolding entries_in row_of
-    used_next {used} {w} u e f =
+    unfolding entries_in
+    used_next {used} {w} {x} u e f =
         let z : i + 1 ≡ suc i = omega arith in
-        let y : w ≡ length (entries_of C (C.row i)) = f ∙ rw (e, a.finds_left, a.finds_right) (sym entered_words) in
+        let t = asked_tells C i e in
+        let l : x.left ≡ a.left = some_same (sym t.0 ∙ a.finds_left) in
+        let r : x.right ≡ a.right = some_same (sym t.1 ∙ a.finds_right) in
+        let c : x.commutative ≡ (C.row i).commutative = ap (λ (y : Row). y.commutative) t.3 in
+        let y : w ≡ length (entries_of C (C.row i)) = f ∙ rw (c, l, r) (sym entered_words) in
         rw (z, entries_in, length-append (entries_in C i) (entries_of C (C.row i))) (omega (arith, u, y))
 
 pub few_entered : (x : Row) {w : ℕ} → w ≡ cond (x.commutative && not (eqb x.left x.right)) 8 4 → w ≤ 8

@@ -22,14 +22,14 @@ use Rattle.guarantees.proofs.Laid.{LaidOut, lent_tells, lent_room, few_kinds, fe
 use Rattle.guarantees.proofs.Lent.{image_fits}
 use Rattle.guarantees.proofs.Written.{Holds, head_kinds}
 use Rattle.guarantees.proofs.ReadBack.{kinds_back}
-use Rattle.written.specs.Shown.{front_in, front_after, fits_in, rows_in, rows_for, links_in, links_for}
+use Rattle.written.specs.declared.rows.Named.{Named}
+use Rattle.written.specs.Shown.{front_in, front_after, fits_in, rows_in, rows_for, named_in, named_for}
 use Rattle.written.proofs.Kinded.{count_in}
 use Rattle.written.proofs.Parts.{fits_told}
 use Rattle.written.proofs.Pasted.{over_zeros}
 use Rattle.written.proofs.Places.{word_at, word_past_kinds, word_of_rows}
 use Rattle.compile.specs.Shown.{Reads, whole}
 use Rattle.compile.proofs.Prefix as prefix
-use Rattle.compile.proofs.RowLinks.{links_long}
 use Rattle.compile.proofs.FrontKinds.{kinds_same}
 
 -- ---- the table's words
@@ -67,9 +67,9 @@ module _ (s : List ℕ) (bytes : Bytes s) (room : ℕ) (e : lent_check s room �
     fits : fits_in s (length z) ≡ true
     fits = fits_told s (length z) kinds_few rows_few r
 
-    pub links_made : {l : List ℕ} → l ≡ links_for s (length z) → (l ≡ links_in s) × (length l ≡ 600)
-    unfolding links_for
-    links_made {l} q = let m : l ≡ links_in s = q ∙ rw fits in (m, ap length m ∙ links_long s rows_few)
+    pub named_made : {l : List Named} → l ≡ named_for s (length z) → l ≡ named_in s
+    unfolding named_for
+    named_made q = q ∙ rw fits
 
     module _ {rows : List ℕ} (q : rows ≡ rows_for s (length z)) where
       pub rows_made : rows ≡ rows_in s

@@ -4,7 +4,8 @@ use Prim.Native.Nat.{ℕ, ◌<◌}
 use mathlib.Core.Path.{◌≡◌, refl, sym, ◌∙◌}
 use mathlib.Core.Bool.{Bool, true, false, true≢false}
 use mathlib.Core.List.{List}
-use mathlib.Core.Option.{Option, some, none}
+use Rattle.std.specs.declared.option.Option.{Option}
+use Rattle.std.specs.declared.option.Option.TheVariants.{None, Some}
 use Rattle.laws.specs.Options.{is_some, found}
 use Rattle.laws.specs.Out.{given, refused, ◌>>=◌, ◌>>◌, refuse_if, refuse_found, needed}
 use Rattle.dimension.specs.Dimension as D
@@ -18,28 +19,27 @@ use Rattle.rules.specs.Catalog.{Id, Catalog, catalog_in, blank, link, find}
 use Rattle.rules.specs.Compile.{Checked, if_declared, called}
 use Rattle.guarantees.proofs.KindRules.{find_below}
 use Rattle.table.proofs.Links.{to_some, nowhere_none}
-use Rattle.error.specs.Shown.{answer, error_of, besides, fine, linked}
-use Rattle.error.specs.declared.answer.Answer.{Answer}
-use Rattle.error.specs.declared.answer.Verdict.TheVariants.{Fine, Refused}
-use Rattle.error.specs.declared.answer.Link.{Link}
-use Rattle.error.specs.declared.answer.Link.TheVariants.{To, Nowhere}
+use Rattle.error.specs.Shown.{fault, error_of, fine}
+use Rattle.std.specs.declared.result.Result.{Result}
+use Rattle.std.specs.declared.result.Result.TheVariants.{Ok, Err}
+use Rattle.error.specs.declared.fault.Fault.{Fault}
 use Rattle.compile.specs.Shown.{ruled}
 
 -- nothing to refuse
-abbrev pub passes : Answer
-passes = answer Fine 0 D.one
+abbrev pub passes : Result (Unit {0}) Fault
+passes = Ok tt
 
 -- refused for x at p
-abbrev pub no : Refusal → ℕ → Answer
-no x p = answer (Refused (error_of x)) p (besides x)
+abbrev pub no : Refusal → ℕ → Result (Unit {0}) Fault
+no x p = Err (fault p (error_of x))
 
-pub some_false : {A : Type 0} (o : Option A) → is_some o ≡ false → o ≡ none
-some_false none e = refl
-some_false (some a) e = cc
+pub some_false : {A : Type 0} (o : Option A) → is_some o ≡ false → o ≡ None
+some_false None e = refl
+some_false (Some a) e = cc
 
-pub some_true : (o : Option Dimensions) → is_some o ≡ true → o ≡ some (found o (λ d. d) D.one)
-some_true (some d) e = refl
-some_true none e = cc
+pub some_true : (o : Option Dimensions) → is_some o ≡ true → o ≡ Some (found o (λ d. d) D.one)
+some_true (Some d) e = refl
+some_true None e = cc
 
 unresolved : (K : Kinds) (k : ℕ) → is_some (K.dims k) ≡ false → operand K k ≡ refused (UnresolvedDimensions k)
 unfolding operand
@@ -54,11 +54,11 @@ link_is : (C : Catalog) (id : Id) → blank id ≡ false → link C id ≡ find 
 unfolding link
 link_is C id e = rw e
 
-link_none : (C : Catalog) (id : Id) → blank id ≡ true → link C id ≡ none
+link_none : (C : Catalog) (id : Id) → blank id ≡ true → link C id ≡ None
 unfolding link
 link_none C id e = rw e
 
-module _ (p : ℕ) {v : Answer} where
+module _ (p : ℕ) {v : Result (Unit {0}) Fault} where
   pub ruled_given : {m : Checked} → m ≡ given tt → v ≡ passes → v ≡ ruled p m
   unfolding ruled fine
   ruled_given e h = rw e h
@@ -98,18 +98,18 @@ module _ (p : ℕ) {v : Answer} where
 
   -- ---- what is found is refused
   module _ {o : Option ℕ} (x : ℕ → Refusal) where
-    pub found_refused : {a : ℕ} → o ≡ some a → v ≡ no (x a) p → v ≡ ruled p (refuse_found o x)
+    pub found_refused : {a : ℕ} → o ≡ Some a → v ≡ no (x a) p → v ≡ ruled p (refuse_found o x)
     found_refused {a} e h = ruled_refused (x a) (rw e) h
 
-    pub found_passed : o ≡ none → v ≡ passes → v ≡ ruled p (refuse_found o x)
+    pub found_passed : o ≡ None → v ≡ passes → v ≡ ruled p (refuse_found o x)
     found_passed e h = ruled_given (rw e) h
 
   -- ---- what is needed
   module _ {A : Type 0} {o : Option A} (x : Refusal) (f : A → Checked) where
-    pub needed_refused : o ≡ none → v ≡ no x p → v ≡ ruled p (needed o x >>= f)
+    pub needed_refused : o ≡ None → v ≡ no x p → v ≡ ruled p (needed o x >>= f)
     needed_refused e h = ruled_refused x (rw e) h
 
-    pub needed_passed : {a : A} → o ≡ some a → v ≡ ruled p (f a) → v ≡ ruled p (needed o x >>= f)
+    pub needed_passed : {a : A} → o ≡ Some a → v ≡ ruled p (f a) → v ≡ ruled p (needed o x >>= f)
     needed_passed e h = rw e h
 
   -- ---- dimensions that are needed: 19. `only` where it is not needed what they are
@@ -128,12 +128,12 @@ module _ (p : ℕ) {v : Answer} where
 
   -- ---- the kind of an id: 12. u is what the code found
   module _ (C : Catalog) (id : Id) (i : ℕ) (f : ℕ → Checked) where
-    module _ {u : Link} (l : u ≡ linked (find C id)) where
-      pub called_unknown : u ≡ Nowhere → v ≡ no (Unknown i) p → v ≡ ruled p (called C i id >>= f)
+    module _ {u : Option ℕ} (l : u ≡ find C id) where
+      pub called_unknown : u ≡ None → v ≡ no (Unknown i) p → v ≡ ruled p (called C i id >>= f)
       unfolding called
       called_unknown w h = needed_refused (Unknown i) f (nowhere_none (find C id) w l) h
 
-      pub called_known : {k : ℕ} → u ≡ To k → v ≡ ruled p (f k) → v ≡ ruled p (called C i id >>= f)
+      pub called_known : {k : ℕ} → u ≡ Some k → v ≡ ruled p (f k) → v ≡ ruled p (called C i id >>= f)
       unfolding called
       called_known w h = needed_passed (Unknown i) f (to_some (find C id) w l) h
 
@@ -142,18 +142,18 @@ module _ (p : ℕ) {v : Answer} where
       pub id_blank : b ≡ true → v ≡ passes → v ≡ ruled p (if_declared id (called C i id >>= f))
       id_blank q h = ruled_given (rw (sym e ∙ q)) h
 
-      module _ (q : b ≡ false) {u : Link} (l : u ≡ linked (link C id)) where
-        pub id_unknown : u ≡ Nowhere → v ≡ no (Unknown i) p → v ≡ ruled p (if_declared id (called C i id >>= f))
+      module _ (q : b ≡ false) {u : Option ℕ} (l : u ≡ link C id) where
+        pub id_unknown : u ≡ None → v ≡ no (Unknown i) p → v ≡ ruled p (if_declared id (called C i id >>= f))
         id_unknown w h = rw (sym e ∙ q) (called_unknown (rw (link_is C id (sym e ∙ q)) at l) w h)
 
-        pub id_known : {k : ℕ} → u ≡ To k → v ≡ ruled p (f k) → v ≡ ruled p (if_declared id (called C i id >>= f))
+        pub id_known : {k : ℕ} → u ≡ Some k → v ≡ ruled p (f k) → v ≡ ruled p (if_declared id (called C i id >>= f))
         id_known w h = rw (sym e ∙ q) (called_known (rw (link_is C id (sym e ∙ q)) at l) w h)
 
 -- a kind that an id names is one of the image's
-pub link_below : (s : List ℕ) (id : Id) {u : Link} {k : ℕ} → u ≡ linked (link (catalog_in s) id) → u ≡ To k → k < kind_count s
+pub link_below : (s : List ℕ) (id : Id) {u : Option ℕ} {k : ℕ} → u ≡ link (catalog_in s) id → u ≡ Some k → k < kind_count s
 unfolding catalog_in
 link_below s id {u} {k} e p = go (blank id) refl
   where
     go : (b : Bool) → blank id ≡ b → k < kind_count s
-    go true q = let y : none ≡ some k = sym (link_none (catalog_in s) id q) ∙ to_some (link (catalog_in s) id) p e in let z : true ≡ false = cc in absurd (true≢false z)
+    go true q = let y : None ≡ Some k = sym (link_none (catalog_in s) id q) ∙ to_some (link (catalog_in s) id) p e in let z : true ≡ false = cc in absurd (true≢false z)
     go false q = find_below (catalog_in s) id (sym (link_is (catalog_in s) id q) ∙ to_some (link (catalog_in s) id) p e)

@@ -1,30 +1,18 @@
--- A check's answer tells whether it was refused. a is the answer. Assumes nothing.
-use Prim.Native.Nat.{ℕ}
-use mathlib.Core.Path.{◌≡◌, refl, sym, ◌∙◌, ap}
+-- What a check's answer tells: Ok that nothing is refused, Err that something is. Assumes nothing.
+use mathlib.Core.Path.{◌≡◌, refl}
 use mathlib.Core.Bool.{true, false, true≢false}
-use mathlib.Core.List.{List, [], ◌∷◌}
+use Rattle.std.specs.declared.result.Result.TheVariants.{Ok, Err}
 use Rattle.laws.specs.Out.{given, refused}
-use Rattle.rules.specs.Refusal.{Fault, Placed}
+use Rattle.rules.specs.Refusal as rule
 use Rattle.error.specs.Shown.{fine}
-use Rattle.error.specs.declared.answer.Answer.{Answer}
-use Rattle.error.specs.declared.answer.Verdict.{Verdict}
-use Rattle.error.specs.declared.answer.Verdict.TheVariants.{Fine, Refused}
-use Rattle.error.specs.declared.cause.Error.{Error}
+use Rattle.error.specs.declared.fault.Fault.{Fault}
 
-abbrev pub NotRefused : Verdict → Type 0
-NotRefused v = (x : Error) → v ≡ Refused x → ⊥
+pub fine_refused : (m : rule.Placed (Unit {0})) {f : Fault} → Err f ≡ fine m → (x : rule.Fault) × (m ≡ refused x)
+unfolding fine
+fine_refused (given u) e = let z : true ≡ false = cc in absurd (true≢false z)
+fine_refused (refused x) e = (x, refl)
 
--- the verdicts' places in code's list, without the refusals
-abbrev pub but_refused : List ℕ
-but_refused = 0 ∷ 1 ∷ 2 ∷ []
-
-module _ {a : Answer} where
-  pub fine_refused : (m : Placed (Unit {0})) {x : Error} → a ≡ fine m → a.verdict ≡ Refused x → (f : Fault) × (m ≡ refused f)
-  unfolding fine
-  fine_refused (given u) {x} e p = let z : Fine ≡ Refused x = sym (ap (λ (b : Answer). b.verdict) e) ∙ p in let y : true ≡ false = cc in absurd (true≢false y)
-  fine_refused (refused f) e p = (f, refl)
-
-  pub fine_given : (m : Placed (Unit {0})) → a ≡ fine m → NotRefused a.verdict → m ≡ given tt
-  unfolding fine
-  fine_given (given u) e n = refl
-  fine_given (refused f) e n = absurd (n _ (ap (λ (b : Answer). b.verdict) e))
+pub fine_given : (m : rule.Placed (Unit {0})) {u : Unit {0}} → Ok u ≡ fine m → m ≡ given tt
+unfolding fine
+fine_given (given u) e = refl
+fine_given (refused x) e = let z : true ≡ false = cc in absurd (true≢false z)

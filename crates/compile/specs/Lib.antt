@@ -1,4 +1,3 @@
 -- what the rules of kinds and of rows come to, step by step
 pub mod Shown
-pub mod Asked
 pub mod Rows

@@ -1,28 +1,40 @@
 -- The rule of a row by what its ids name, over kinds K and the rows R in force before it; and from a step of it on.
-use Rattle.std.specs.Prelude.{ℕ, Bool, cond, not, ◌&&◌, List, ltb}
+use Rattle.std.specs.Prelude.{ℕ, Bool, cond, not, ◌&&◌, List}
+use Rattle.std.specs.declared.option.Option.{Option}
+use Rattle.std.specs.declared.option.Option.TheVariants.{None, Some}
+use Rattle.std.specs.declared.result.Result.{Result}
+use Rattle.laws.specs.Options.{found}
 use Rattle.laws.specs.Out.{given, refused, ◌>>=◌, ◌>>◌, refuse_if, refuse_found}
 use Rattle.dimension.specs.declared.grade.ProductOp.{ProductOp}
 use Rattle.dimension.specs.declared.grade.ProductOp.TheVariants.{Div}
 use Rattle.rules.specs.Kinds.{Kinds, Rows, Graded, same_op, point, carries}
-use Rattle.rules.specs.Refusal.{Unknown, CommutativeQuotient, Point, InvalidOperationRule, DerivedOperationRule, ConflictingOperationRule}
+use Rattle.rules.specs.Refusal as rule
+use Rattle.rules.specs.Refusal.{CommutativeQuotient, Point, InvalidOperationRule, DerivedOperationRule, ConflictingOperationRule}
 use Rattle.rules.specs.Arithmetic.{operand, derive, resolve, settle}
-use Rattle.rules.specs.Catalog.{Catalog, find}
-use Rattle.rules.specs.Compile.{Checked}
-use Rattle.rules.specs.Table.{index_word}
+use Rattle.rules.specs.Catalog.{Catalog}
+use Rattle.rules.specs.Compile.{Checked, called}
+use Rattle.error.specs.Shown.{shown}
+use Rattle.error.specs.declared.fault.Fault.{Fault}
+use Rattle.written.specs.declared.rows.Named.{Named}
 use Rattle.compile.specs.declared.rows.Row.{Row}
 
--- row i of C, its ids as indexes
-unfoldable pub row_of : Catalog → ℕ → Row
-row_of C i = record {
-  left = index_word (find C (C.row i).left);
-  op = (C.row i).op;
-  right = index_word (find C (C.row i).right);
-  result = index_word (find C (C.row i).result);
-  commutative = (C.row i).commutative;
-}
+-- a row of this operation, marked commutative or not, by what its ids name; none where one of them names nothing
+unfoldable pub row_by_names : Named → ProductOp → Bool → Option Row
+row_by_names n op c =
+    found n.left (λ l. found n.right (λ r. found n.result (λ k. Some (record { left = l; op = op; right = r; result = k; commutative = c })) None) None) None
 
-unfoldable pub is_named : Row → Bool
-is_named x = ltb x.left 65535 && ltb x.right 65535 && ltb x.result 65535
+-- 22, 12: row i of C by the kinds that its ids name
+unfoldable pub row_asked : Catalog → ℕ → rule.Answer Row
+row_asked C i = do
+  refuse_if ((C.row i).commutative && same_op (C.row i).op Div) (CommutativeQuotient i)
+  l ← called C i (C.row i).left
+  r ← called C i (C.row i).right
+  k ← called C i (C.row i).result
+  given (record { left = l; op = (C.row i).op; right = r; result = k; commutative = (C.row i).commutative })
+
+-- the same as code answers it
+unfoldable pub row_shown : Catalog → ℕ → Result Row Fault
+row_shown C i = shown (λ x. x) (rule.at i (row_asked C i))
 
 -- 27
 unfoldable pub fresh_in : Rows → ℕ → ProductOp → ℕ → Checked
@@ -58,10 +70,3 @@ row_named K R x = do
   refuse_if (point K x.result) (Point x.left x.op x.right x.result)
   operand K x.result
   row_derived K R x
-
--- 22, 12
-unfoldable pub row_by : Kinds → Rows → Row → ℕ → Checked
-row_by K R x i = do
-  refuse_if (x.commutative && same_op x.op Div) (CommutativeQuotient i)
-  refuse_if (not (is_named x)) (Unknown i)
-  row_named K R x

@@ -1,6 +1,7 @@
 -- What the code's answers show of the rules, and the rules from a step on.
 use Rattle.std.specs.Prelude.{ℕ, ◌-◌, ◌≡◌, Bool, false, cond, not, ◌&&◌, List, ◌++◌, eqb, length, replicate}
-use Rattle.std.proofs.Math.Option.{some}
+use Rattle.std.specs.declared.option.Option.TheVariants.{Some}
+use Rattle.std.specs.declared.result.Result.{Result}
 use Rattle.laws.specs.Options.{is_some}
 use Rattle.laws.specs.Out.{given, ◌>>=◌, ◌>>◌, refuse_if, refuse_found, needed, each}
 use Rattle.laws.specs.Ranges.{first}
@@ -13,20 +14,19 @@ use Rattle.rules.specs.Catalog.{Catalog, catalog_in, blank, same, meant, rate_am
 use Rattle.rules.specs.Compile.{Checked, Compiled, same_dims, id_rule, difference_rule, dimensionless_rule, time_rule, rate_rule, each_record}
 use Rattle.rules.specs.Table as T
 use Rattle.error.specs.Shown.{fine, shown}
-use Rattle.error.specs.declared.answer.Answer.{Answer}
-use Rattle.error.specs.declared.answer.Verdict.TheVariants.{Fine}
+use Rattle.error.specs.declared.fault.Fault.{Fault}
 
 -- a rule of the record or byte p
-unfoldable pub ruled : ℕ → Checked → Answer
+unfoldable pub ruled : ℕ → Checked → Result (Unit {0}) Fault
 ruled p m = fine (at p m)
 
 -- a rule of each of n records
-unfoldable pub ruled_all : (ℕ → Checked) → ℕ → Answer
+unfoldable pub ruled_all : (ℕ → Checked) → ℕ → Result (Unit {0}) Fault
 ruled_all rule n = fine (each (λ k. at k (rule k)) n)
 
 -- a compilation that succeeds hands back nothing but that
-unfoldable pub compiled : Placed Compiled → Answer
-compiled m = shown (λ c. Fine) m
+unfoldable pub compiled : Placed Compiled → Result (Unit {0}) Fault
+compiled m = shown (λ c. tt) m
 
 -- the words t are read as the kinds that the image s declares
 abbrev pub Reads : List ℕ → List ℕ → Type 0
@@ -60,11 +60,11 @@ unfoldable pub is_difference_in : Kinds → ℕ → Bool
 is_difference_in K k = is_some (first (λ j. meant k (K.difference j)) K.count)
 
 unfoldable pub linear_one : Kinds → ℕ → Bool
-linear_one K k = cond (point K k) false (cond (is_difference_in K k) false (same_dims (K.dims k) (some D.one)))
+linear_one K k = cond (point K k) false (cond (is_difference_in K k) false (same_dims (K.dims k) (Some D.one)))
 
 -- 15, of the dimensionless kind o
 unfoldable pub neutral_kind : Catalog → ℕ → Checked
-neutral_kind C o = refuse_if (not (eqb (role C o) 0 && same_dims (C.kind o).dims (some D.one))) (InvalidDimensionlessKind o)
+neutral_kind C o = refuse_if (not (eqb (role C o) 0 && same_dims (C.kind o).dims (Some D.one))) (InvalidDimensionlessKind o)
 
 -- 16, of the time kind t
 unfoldable pub time_kind : Catalog → ℕ → Checked
@@ -77,7 +77,7 @@ rate_once C k t = refuse_found (rate_among C k t) AlsoRateOf
 -- a and c are the dimensions of the rate and of the duration
 unfoldable pub rate_fits : Catalog → ℕ → ℕ → Dimensions → Dimensions → Checked
 rate_fits C k t a c = do
-  x ← given (record { dims = (D.product a c).value; grade = (kinds_of C).grade k })
+  x ← given (record { dims = (D.or_one (D.product a c)); grade = (kinds_of C).grade k })
   refuse_if (not (carries (kinds_of C) x t)) (RateMismatch x)
   rate_once C k t
 

@@ -1,21 +1,13 @@
-// What a rule answers.
+// A rule's refusal.
 ghost use Rattle.std.specs.Prelude.{◌≡◌};
-ghost use Rattle.dimension.specs.Dimension as D;
-ghost use Rattle.error.specs.Shown.{answer};
-ghost use Rattle.error.specs.declared.answer.Verdict.TheVariants as verdict;
+ghost use Rattle.std.specs.declared.result.Result.TheVariants.{Err};
+ghost use Rattle.error.specs.Shown.{fault};
 
-use error::{Answer, Error, Verdict, plain, refused};
+use error::{Error, Fault};
 
-// Nothing to refuse.
-pub(crate) fn passed() -> Answer
-    ensures { result ≡ answer verdict.Fine 0 D.one }
+// Refused at kind, row or byte k.
+pub(crate) fn refused_at(error: Error, k: u16) -> Result<(), Fault>
+    ensures { result ≡ Err (fault k error) }
 {
-    plain(Verdict::Fine, 0)
-}
-
-// Refused at kind or row k.
-pub(crate) fn refused_at(error: Error, k: u16) -> Answer
-    ensures { result ≡ answer (verdict.Refused error) k D.one }
-{
-    refused(error, k as usize)
+    Err(error.at(k as usize))
 }

@@ -7,89 +7,41 @@ ghost use Rattle.rules.specs.Layout as layout;
 ghost use Rattle.rules.specs.Catalog.{catalog_in};
 ghost use Rattle.rules.specs.Compile as rule;
 ghost use Rattle.rules.specs.Image.{lent_check, compile_image, table_after};
-ghost use Rattle.written.specs.Shown.{rows_in, links_in};
-ghost use Rattle.compile.specs.Shown.{Reads, kinds_ruled, whole, compiled};
+ghost use Rattle.compile.specs.Shown.{kinds_ruled, whole, compiled};
 
-use crate::answers::passed;
-use crate::kinds::{Rule, check_kinds};
-use crate::links::{check_dimensionless, check_time};
+use crate::declared::Declared;
+use crate::ids::check_id;
+use crate::kinds::check_kinds;
+use crate::links::{check_difference, check_dimensionless, check_time};
+use crate::rates::check_rate;
 use crate::rows::check_rows;
 use catalog::{keys_of, kind_count};
-use error::{Answer, Verdict};
+use error::Fault;
 use image::check_lent;
 use table::ROWS;
 use written::table_words;
 
 // The rules of kinds: ids, differences, the dimensionless kind, time, rates.
-fn check_declared(image: &[u8], t: &[u32]) -> Answer
-    requires { Reads t.now image.now }
-    ensures { result ≡ fine (kinds_ruled (catalog_in image.now)) }
+fn check_declared(c: Declared) -> Result<(), Fault>
+    ensures { result ≡ fine (kinds_ruled (catalog_in c.entry.image.now)) }
 {
-    let listed = keys_of(image);
+    let listed = keys_of(c.image);
     let keys = listed.words;
-    let ids = check_kinds(image, t, &keys, Rule::Id);
-    let told_ids = ids.verdict;
-    if let Verdict::Refused(e) = told_ids {
-        return ids;
-    }
-    let differences = check_kinds(image, t, &keys, Rule::Difference);
-    let told_differences = differences.verdict;
-    if let Verdict::Refused(e) = told_differences {
-        return differences;
-    }
-    let neutral = check_dimensionless(image, t);
-    let told_neutral = neutral.verdict;
-    if let Verdict::Refused(e) = told_neutral {
-        return neutral;
-    }
-    let instant = check_time(image, t);
-    let told_instant = instant.verdict;
-    if let Verdict::Refused(e) = told_instant {
-        return instant;
-    }
-    check_kinds(image, t, &keys, Rule::Rate)
+    let n = kind_count(c.image);
+    check_kinds(n, |k| check_id(c.image, &keys, k))?;
+    check_kinds(n, |k| check_difference(c, k))?;
+    check_dimensionless(c)?;
+    check_time(c)?;
+    check_kinds(n, |k| check_rate(c, k))
 }
 
 // 10 to 27.
-fn check_rules(image: &[u8], t: &[u32], rows: &[u32], links: &[u16]) -> Answer
-    requires reads { Reads t.now image.now }
-    requires rows_value { rows.now ≡ rows_in image.now }
-    requires links_value { links.now ≡ links_in image.now }
-    requires image_bound { layout.kind_count image.now ≤ 240 }
-    requires image_bound_2 { layout.row_count image.now ≤ 200 }
-    ensures { result ≡ fine (rule.compiles (catalog_in image.now)) }
+#[tactic(auto, using(crate::proofs::Stages::kinds_stop, crate::proofs::Stages::rows_answer))]
+fn check_rules(c: Declared) -> Result<(), Fault>
+    ensures { result ≡ fine (rule.compiles (catalog_in c.entry.image.now)) }
 {
-    let kinds = check_declared(image, t);
-    let verdict = kinds.verdict;
-    if let Verdict::Refused(e) = verdict {
-        return kinds;
-    }
-    check_rows(image, t, rows, links)
-}
-
-// Puts all words in front of what the table holds.
-fn copy(words: &[u32], table: &mut [u32])
-    requires { length words.now ≤ length table.old }
-    ensures { table.new ≡ overlay words.now table.old }
-{
-    let n = words.len();
-    let mut i: usize = 0;
-    while i < n {
-        table[i] = words[i];
-        i += 1;
-    }
-}
-
-// Makes every word of a part zero.
-fn clear(part: &mut [u32])
-    ensures { part.new ≡ replicate (length part.old) 0 }
-{
-    let n = part.len();
-    let mut i: usize = 0;
-    while i < n {
-        part[i] = 0;
-        i += 1;
-    }
+    check_declared(c)?;
+    check_rows(c)
 }
 
 // Writes the table: the front, zeros up to the rows, the rows.
@@ -100,13 +52,13 @@ fn write(front: &[u32], rows: &[u32], table: &mut [u32])
     ensures { table.new ≡ overlay (whole front.now rows.now) table.old }
 {
     let n = front.len();
-    copy(front, table);
-    clear(&mut table[n..ROWS]);
-    copy(rows, &mut table[ROWS..]);
+    table[..n].copy_from_slice(front);
+    table[n..ROWS].fill(0);
+    table[ROWS..ROWS + rows.len()].copy_from_slice(rows);
 }
 
 // From 10 on. The table's front is made in words of its own, which are zeros at first: where a rule refuses, the table is as it was.
-fn compile_in(image: &[u8], front: &mut [u32], table: &mut [u32]) -> Answer
+fn compile_in(image: &[u8], front: &mut [u32], table: &mut [u32]) -> Result<(), Fault>
     requires table_value { lent_check image.now (length table.old) ≡ given tt }
     requires front_value { front.old ≡ replicate (length front.old) 0 }
     requires image_in_bounds { 16 + 32 * layout.kind_count image.now ≤ length front.old }
@@ -116,27 +68,24 @@ fn compile_in(image: &[u8], front: &mut [u32], table: &mut [u32]) -> Answer
 {
     let written = table_words(image, front);
     let rows = written.rows;
-    let links = written.links;
-    let rules = check_rules(image, front, &rows, &links);
-    let told_rules = rules.verdict;
-    if let Verdict::Refused(e) = told_rules {
-        return rules;
-    }
+    let named = written.named;
+    check_rules(Declared {
+        image,
+        t: front,
+        rows: &rows,
+        named: &named,
+    })?;
     write(front, &rows, table);
-    passed()
+    Ok(())
 }
 
-// Fine, and the table's first 9,296 words are written; or refused, and the table is as it was. The front of up to 60 kinds is
+// Ok, and the table's first 9,296 words are written; or refused, and the table is as it was. The front of up to 60 kinds is
 // made in 16 + 32 * 60 words, so that a small catalog makes and copies fewer.
-pub fn compile(image: &[u8], table: &mut [u32]) -> Answer
+pub fn compile(image: &[u8], table: &mut [u32]) -> Result<(), Fault>
     ensures value { result ≡ compiled (compile_image image.now (length table.old)) }
     ensures table_after { table.new ≡ table_after image.now table.old }
 {
-    let lent = check_lent(image, table.len());
-    let told_lent = lent.verdict;
-    if let Verdict::Refused(e) = told_lent {
-        return lent;
-    }
+    check_lent(image, table.len())?;
     if kind_count(image) <= 60 {
         let mut few = [0u32; 1936];
         return compile_in(image, &mut few, table);

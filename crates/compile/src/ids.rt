@@ -6,24 +6,23 @@ ghost use Rattle.rules.specs.Compile as rule;
 ghost use Rattle.catalog.specs.Keys.{keys_in};
 ghost use Rattle.compile.specs.Shown.{ruled, repeated};
 
-use crate::answers::{passed, refused_at};
+use crate::answers::refused_at;
 use catalog::{blank_at, find_by, kind_place};
-use error::{Answer, Error, Link};
+use error::{Error, Fault};
 
 // Whether an earlier kind has the id of kind k.
+#[tactic(auto, using(crate::proofs::OwnIds::own))]
 fn is_repeated(image: &[u8], keys: &[u32], k: u16) -> bool
     requires keys_value { keys.now ≡ keys_in image.now }
     requires k_bound { k < layout.kind_count image.now }
     ensures { result ≡ repeated (catalog_in image.now) k }
 {
-    match find_by(image, keys, kind_place(k)) {
-        Link::To(j) => j < k,
-        Link::Nowhere => false,
-    }
+    find_by(image, keys, kind_place(k)).is_some_and(|j| j < k)
 }
 
 // The id of kind k: empty, then repeated.
-pub(crate) fn check_id(image: &[u8], keys: &[u32], k: u16) -> Answer
+#[tactic(auto, using(crate::proofs::OwnIds::own))]
+pub(crate) fn check_id(image: &[u8], keys: &[u32], k: u16) -> Result<(), Fault>
     requires keys_value { keys.now ≡ keys_in image.now }
     requires k_bound { k < layout.kind_count image.now }
     ensures { result ≡ ruled k (rule.id_rule (catalog_in image.now) k) }
@@ -34,5 +33,5 @@ pub(crate) fn check_id(image: &[u8], keys: &[u32], k: u16) -> Answer
     if is_repeated(image, keys, k) {
         return refused_at(Error::Duplicate(k), k);
     }
-    passed()
+    Ok(())
 }

@@ -3,6 +3,7 @@
 
 mod answers;
 mod compiler;
+mod declared;
 mod ids;
 mod kinds;
 mod links;

@@ -9,9 +9,8 @@ use Rattle.dimension.specs.declared.grade.ProductOp.{ProductOp}
 use Rattle.rules.specs.Kinds.{Kinds, Graded, candidates}
 use Rattle.rules.specs.Arithmetic as rule
 use Rattle.rules.specs.Table.{kinds_of}
-use Rattle.error.specs.Shown.{linked}
-use Rattle.error.specs.declared.answer.Link.{Link}
-use Rattle.error.specs.declared.answer.Link.TheVariants.{To, Nowhere}
+use Rattle.std.specs.declared.option.Option.{Option}
+use Rattle.std.specs.declared.option.Option.TheVariants.{None, Some}
 use Rattle.table.proofs.Links.{to_some, nowhere_none}
 use Rattle.fitting.specs.Shown.{at, beside_of, fit_of}
 use Rattle.fitting.specs.declared.beside.Beside.{Beside}
@@ -47,11 +46,11 @@ module _ (t : List ℕ) (x : Graded) (k : ℕ) {v : Beside} (q : v ≡ beside_of
 
 module _ (K : Kinds) (x : Graded) where
   -- ---- what is known comes first; u is the link that is known
-  module _ (l : ℕ) (op : ProductOp) (r : ℕ) {u : Link} (e : u ≡ linked (or_else (rule.neutral K l op r) (rule.rated K l op r))) where
-    pub resolved_known : {k : ℕ} → u ≡ To k → Is k ≡ several_of (rule.resolve K l op r x)
+  module _ (l : ℕ) (op : ProductOp) (r : ℕ) {u : Option ℕ} (e : u ≡ or_else (rule.neutral K l op r) (rule.rated K l op r)) where
+    pub resolved_known : {k : ℕ} → u ≡ Some k → Is k ≡ several_of (rule.resolve K l op r x)
     unfolding rule.resolve
     resolved_known p = rw (to_some (or_else (rule.neutral K l op r) (rule.rated K l op r)) p e)
 
-    pub resolved_fitting : {v : Several} → u ≡ Nowhere → v ≡ several_of (candidates K x) → v ≡ several_of (rule.resolve K l op r x)
+    pub resolved_fitting : {v : Several} → u ≡ None → v ≡ several_of (candidates K x) → v ≡ several_of (rule.resolve K l op r x)
     unfolding rule.resolve
     resolved_fitting p q = rw (nowhere_none (or_else (rule.neutral K l op r) (rule.rated K l op r)) p e) q

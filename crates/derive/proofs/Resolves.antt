@@ -3,20 +3,15 @@ use Prim.Native.Nat.{ℕ, ◌≤◌}
 use mathlib.Core.Path.{◌≡◌, refl, sym}
 use mathlib.Core.Bool.{true, false, true≢false}
 use mathlib.Core.List.{List, [], ◌∷◌}
-use mathlib.Core.Option.{Option, some, none}
+use Rattle.std.specs.declared.option.Option.{Option}
+use Rattle.std.specs.declared.option.Option.TheVariants.{None, Some}
 use native.Mathlib.Omega.{arith}
 use lib.ListN.{length}
 use Rattle.rules.specs.Kinds.{Kinds, Graded, candidates}
 use Rattle.rules.specs.Arithmetic as rule
-use Rattle.error.specs.Shown.{linked}
-use Rattle.derive.specs.Shown.{several_of, unlinked}
+use Rattle.derive.specs.Shown.{several_of}
 use Rattle.derive.specs.declared.resolution.Several.{Several}
 use Rattle.derive.specs.declared.resolution.Several.TheVariants.{Is, Many, Nothing}
-
--- ---- a link is read back
-pub unlinked_linked : (o : Option ℕ) → unlinked (linked o) ≡ o
-unlinked_linked (some k) = refl
-unlinked_linked none = refl
 
 -- ---- told: v is what a call returned
 pub several_is : {v : Several} {k : ℕ} (ks : List ℕ) → v ≡ Is k → v ≡ several_of ks → ks ≡ k ∷ []
@@ -36,5 +31,5 @@ several_many (j ∷ m ∷ ks) p e = omega arith
 
 -- ---- twins are all the kinds that fit
 pub fitting_all : (K : Kinds) (o : Option ℕ) (x : Graded) {k m : ℕ} {js : List ℕ} → rule.or_fitting K o x ≡ k ∷ m ∷ js → k ∷ m ∷ js ≡ candidates K x
-fitting_all K (some k) x e = cc
-fitting_all K none x e = sym e
+fitting_all K (Some k) x e = cc
+fitting_all K None x e = sym e

@@ -1,63 +1,60 @@
 // The kinds that are known before any is looked for: the dimensionless kind is neutral, and a rate goes with its target.
 ghost use Rattle.std.specs.Prelude.{◌≡◌, cond, ◌||◌, eqb};
-ghost use Rattle.std.proofs.Math.Option.{some, none};
+ghost use Rattle.std.specs.declared.option.Option.TheVariants.{None, Some};
 ghost use Rattle.laws.specs.Options.{or_else};
 ghost use Rattle.dimension.specs.Fraction as F;
 ghost use Rattle.rules.specs.Table.{kinds_of};
 ghost use Rattle.rules.specs.Arithmetic as rule;
-ghost use Rattle.error.specs.Shown.{linked};
 
 use dimension::{ProductOp, Rational};
-use error::Link;
 use table::{dimensionless, duration, rate_of, target_of};
 
-fn neutral_mul(o: u16, l: u16, r: u16) -> Link
-    ensures { result ≡ linked (cond (eqb r o) (some l) (cond (eqb l o) (some r) none)) }
+fn neutral_mul(o: u16, l: u16, r: u16) -> Option<u16>
+    ensures { result ≡ cond (eqb r o) (Some l) (cond (eqb l o) (Some r) None) }
 {
     if r == o {
-        return Link::To(l);
+        return Some(l);
     }
     if l == o {
-        return Link::To(r);
+        return Some(r);
     }
-    Link::Nowhere
+    None
 }
 
-fn neutral_div(o: u16, l: u16, r: u16) -> Link
-    ensures { result ≡ linked (cond (eqb r o) (some l) (cond (eqb l r) (some o) none)) }
+fn neutral_div(o: u16, l: u16, r: u16) -> Option<u16>
+    ensures { result ≡ cond (eqb r o) (Some l) (cond (eqb l r) (Some o) None) }
 {
     if r == o {
-        return Link::To(l);
+        return Some(l);
     }
     if l == r {
-        return Link::To(o);
+        return Some(o);
     }
-    Link::Nowhere
+    None
 }
 
-fn neutral_by(op: ProductOp, o: u16, l: u16, r: u16) -> Link
-    ensures { result ≡ linked (rule.neutral_by op o l r) }
+#[tactic(auto, unfolding(rules::specs::Arithmetic::neutral_by))]
+fn neutral_by(op: ProductOp, o: u16, l: u16, r: u16) -> Option<u16>
+    ensures { result ≡ rule.neutral_by op o l r }
 {
     match op {
         ProductOp::Mul => neutral_mul(o, l, r),
         ProductOp::Div => neutral_div(o, l, r),
-        ProductOp::Dot => Link::Nowhere,
-        ProductOp::Wedge => Link::Nowhere,
+        ProductOp::Dot => None,
+        ProductOp::Wedge => None,
     }
 }
 
 // The dimensionless kind is neutral in Mul and as divisor, and a kind over itself gives it.
-fn neutral(t: &[u32], l: u16, op: ProductOp, r: u16) -> Link
-    ensures { result ≡ linked (rule.neutral (kinds_of t.now) l op r) }
+#[tactic(auto, unfolding(rules::specs::Arithmetic::neutral))]
+fn neutral(t: &[u32], l: u16, op: ProductOp, r: u16) -> Option<u16>
+    ensures { result ≡ rule.neutral (kinds_of t.now) l op r }
 {
-    match dimensionless(t) {
-        Link::To(o) => neutral_by(op, o, l, r),
-        Link::Nowhere => Link::Nowhere,
-    }
+    neutral_by(op, dimensionless(t)?, l, r)
 }
 
-fn rated_mul(t: &[u32], d: u16, l: u16, r: u16) -> Link
-    ensures { result ≡ linked (cond (eqb r d) ((kinds_of t.now).rate_of l) (cond (eqb l d) ((kinds_of t.now).rate_of r) none)) }
+fn rated_mul(t: &[u32], d: u16, l: u16, r: u16) -> Option<u16>
+    ensures { result ≡ cond (eqb r d) ((kinds_of t.now).rate_of l) (cond (eqb l d) ((kinds_of t.now).rate_of r) None) }
 {
     if r == d {
         return target_of(t, l);
@@ -65,64 +62,58 @@ fn rated_mul(t: &[u32], d: u16, l: u16, r: u16) -> Link
     if l == d {
         return target_of(t, r);
     }
-    Link::Nowhere
+    None
 }
 
-fn rated_div(t: &[u32], d: u16, l: u16, r: u16) -> Link
-    ensures { result ≡ linked (cond (eqb r d) ((kinds_of t.now).rate l) none) }
+fn rated_div(t: &[u32], d: u16, l: u16, r: u16) -> Option<u16>
+    ensures { result ≡ cond (eqb r d) ((kinds_of t.now).rate l) None }
 {
     if r == d {
         return rate_of(t, l);
     }
-    Link::Nowhere
+    None
 }
 
-fn rated_by(t: &[u32], op: ProductOp, d: u16, l: u16, r: u16) -> Link
-    ensures { result ≡ linked (rule.rated_by (kinds_of t.now) op d l r) }
+#[tactic(auto, unfolding(rules::specs::Arithmetic::rated_by))]
+fn rated_by(t: &[u32], op: ProductOp, d: u16, l: u16, r: u16) -> Option<u16>
+    ensures { result ≡ rule.rated_by (kinds_of t.now) op d l r }
 {
     match op {
         ProductOp::Mul => rated_mul(t, d, l, r),
         ProductOp::Div => rated_div(t, d, l, r),
-        ProductOp::Dot => Link::Nowhere,
-        ProductOp::Wedge => Link::Nowhere,
+        ProductOp::Dot => None,
+        ProductOp::Wedge => None,
     }
 }
 
 // A rate times duration is its target, the target over duration its rate.
-fn rated(t: &[u32], l: u16, op: ProductOp, r: u16) -> Link
-    ensures { result ≡ linked (rule.rated (kinds_of t.now) l op r) }
+#[tactic(auto, unfolding(rules::specs::Arithmetic::rated))]
+fn rated(t: &[u32], l: u16, op: ProductOp, r: u16) -> Option<u16>
+    ensures { result ≡ rule.rated (kinds_of t.now) l op r }
 {
-    match duration(t) {
-        Link::To(d) => rated_by(t, op, d, l, r),
-        Link::Nowhere => Link::Nowhere,
-    }
+    rated_by(t, op, duration(t)?, l, r)
 }
 
 // What a product is known as: neutral first, then by a rate.
-pub fn known_kind(t: &[u32], l: u16, op: ProductOp, r: u16) -> Link
-    ensures { result ≡ linked (or_else (rule.neutral (kinds_of t.now) l op r) (rule.rated (kinds_of t.now) l op r)) }
+pub fn known_kind(t: &[u32], l: u16, op: ProductOp, r: u16) -> Option<u16>
+    ensures { result ≡ or_else (rule.neutral (kinds_of t.now) l op r) (rule.rated (kinds_of t.now) l op r) }
 {
-    match neutral(t, l, op, r) {
-        Link::To(k) => Link::To(k),
-        Link::Nowhere => rated(t, l, op, r),
-    }
+    neutral(t, l, op, r).or_else(|| rated(t, l, op, r))
 }
 
 // Exponent zero, or the dimensionless kind, gives that kind where it is declared.
-pub fn neutral_power(t: &[u32], k: u16, e: Rational) -> Link
-    ensures { result ≡ linked (rule.neutral_power (kinds_of t.now) k e) }
+#[tactic(auto, unfolding(rules::specs::Arithmetic::neutral_power))]
+pub fn neutral_power(t: &[u32], k: u16, e: Rational) -> Option<u16>
+    ensures { result ≡ rule.neutral_power (kinds_of t.now) k e }
 {
-    match dimensionless(t) {
-        Link::To(o) => neutral_raised(o, k, e),
-        Link::Nowhere => Link::Nowhere,
-    }
+    neutral_raised(dimensionless(t)?, k, e)
 }
 
-fn neutral_raised(o: u16, k: u16, e: Rational) -> Link
-    ensures { result ≡ linked (cond (F.is_zero e || eqb k o) (some o) none) }
+fn neutral_raised(o: u16, k: u16, e: Rational) -> Option<u16>
+    ensures { result ≡ cond (F.is_zero e || eqb k o) (Some o) None }
 {
     if e.is_zero() | (k == o) {
-        return Link::To(o);
+        return Some(o);
     }
-    Link::Nowhere
+    None
 }

@@ -6,6 +6,6 @@ mod derivation;
 mod known;
 mod resolution;
 
-pub use derivation::{Derivation, GradeRuling, Ruling, derive, op_code, ruled};
+pub use derivation::{Graded, derive, ruled};
 pub use known::{known_kind, neutral_power};
 pub use resolution::{Several, resolve_by};

@@ -8,11 +8,10 @@ ghost use Rattle.derive.specs.Shown.{several_of};
 
 use crate::known::known_kind;
 use dimension::{Dimensions, ProductOp};
-use error::Link;
 use fitting::{Beside, Fit, only_fit, seen_from};
 use table::words_of;
 
-// A kind, that there are several, or none.
+// A kind, that there are several, or none: three cases, where an Option has two.
 #[derive(Clone, Copy)]
 pub enum Several {
     Is(u16),
@@ -23,8 +22,7 @@ pub enum Several {
 fn fitting(t: &[u32], d: Dimensions, g: u32) -> Several
     ensures { result ≡ several_of (K.candidates (kinds_of t.now) (at d g)) }
 {
-    let exponents = words_of(d);
-    let w = exponents.words;
+    let w = words_of(d);
     match only_fit(t, &w, g) {
         Fit::Only(k) => Several::Is(k),
         Fit::Second(k) => Several::Many,
@@ -33,6 +31,7 @@ fn fitting(t: &[u32], d: Dimensions, g: u32) -> Several
 }
 
 // Where kind k fits, one other ends the search.
+#[tactic(auto, using(crate::proofs::Fittings::seen_alone, crate::proofs::Fittings::seen_others))]
 fn fitting_by(t: &[u32], d: Dimensions, g: u32, k: u16) -> Several
     ensures { result ≡ several_of (K.candidates (kinds_of t.now) (at d g)) }
 {
@@ -44,6 +43,7 @@ fn fitting_by(t: &[u32], d: Dimensions, g: u32, k: u16) -> Several
 }
 
 // The kind of `left op right`, whose dimensions and grade these are, or whether several fit; k is a kind that is thought to fit.
+#[tactic(auto, using(crate::proofs::Fittings::resolved_known, crate::proofs::Fittings::resolved_fitting))]
 pub fn resolve_by(
     t: &[u32],
     l: u16,
@@ -56,7 +56,7 @@ pub fn resolve_by(
     ensures { result ≡ several_of (rule.resolve (kinds_of t.now) l op r (at d g)) }
 {
     match known_kind(t, l, op, r) {
-        Link::To(j) => Several::Is(j),
-        Link::Nowhere => fitting_by(t, d, g, k),
+        Some(j) => Several::Is(j),
+        None => fitting_by(t, d, g, k),
     }
 }

@@ -9,6 +9,7 @@ ghost use Rattle.details.specs.Listed.{lists_twins, twin_count};
 use exports::{kind_compile, kind_formula};
 use printed::{formula_part, image_part};
 use reading::read_full;
+use slices::front;
 use std::io;
 use table::own_rows;
 
@@ -23,27 +24,16 @@ fn print_number(rt: &HostRuntime, i: usize, n: u64) -> io::Result<()> {
     print!(rt; "{n}")
 }
 
-fn print_words(rt: &HostRuntime, words: [u32; 32]) -> io::Result<()> {
-    let mut i: usize = 0;
-    while i < 32 {
-        print_number(rt, i, words[i] as u64)?;
-        i += 1;
-    }
-    println!(rt;)
-}
-
-fn print_twins(rt: &HostRuntime, twins: [u16; 240], count: usize) -> io::Result<()> {
-    let mut i: usize = 0;
-    while i < 240 {
-        if i < count {
-            print_number(rt, i, twins[i] as u64)?;
-        }
-        i += 1;
+// The numbers, a space between each two, and the line's end.
+fn print_numbers<T: Copy + Into<u64>>(rt: &HostRuntime, numbers: &[T]) -> io::Result<()> {
+    for i in 0..numbers.len() {
+        print_number(rt, i, numbers[i].into())?;
     }
     println!(rt;)
 }
 
 // Whether an answer is a refusal that lists twins, 44 or 48.
+#[tactic(auto, using(laws::proofs::Cases::cases), unfolding(crate::specs::Listed::lists_twins))]
 fn lists_twins(what: u32, number: u32) -> bool
     ensures { result ≡ lists_twins what number }
 {
@@ -51,6 +41,7 @@ fn lists_twins(what: u32, number: u32) -> bool
 }
 
 // How many twins it lists.
+#[tactic(auto, using(laws::proofs::Cases::cases), unfolding(crate::specs::Listed::twin_count))]
 fn twin_count(words: [u32; 32]) -> usize
     ensures { result ≡ twin_count words }
 {
@@ -64,15 +55,15 @@ fn tell_formula(rt: &HostRuntime, table: [u32; 9296], formula: &[u8]) -> io::Res
     let mut twins = [0u16; 240];
     let mut answer = [0u32; 32];
     kind_formula(&table, own_rows(&table), &mut twins, formula, &mut answer);
-    print_words(rt, answer)?;
-    print_twins(rt, twins, twin_count(answer))
+    print_numbers(rt, &answer)?;
+    print_numbers(rt, front(&twins, twin_count(answer)))
 }
 
 fn tell(rt: &HostRuntime, input: &[u8]) -> io::Result<()> {
     let mut table = [0u32; 9296];
     let mut answer = [0u32; 32];
     kind_compile(image_part(input), &mut table, &mut answer);
-    print_words(rt, answer)?;
+    print_numbers(rt, &answer)?;
     if answer[0] == 3 {
         return tell_formula(rt, table, formula_part(input));
     }

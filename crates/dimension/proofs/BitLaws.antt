@@ -11,7 +11,7 @@ use mir.Syntax.{w32}
 use mir.Val.{SFits}
 use Rattle.dimension.specs.Integer.{bits32, twos, up}
 use Rattle.dimension.specs.Fraction.{ratio, sum, difference, declared}
-use Rattle.dimension.specs.declared.rational.Ratio.TheVariants.{Is}
+use Rattle.std.specs.declared.option.Option.TheVariants.{Some}
 use Rattle.dimension.proofs.Signs.{fits_small, twos_low, twos_high}
 use Rattle.dimension.proofs.Integers.{size_sum, size_difference}
 use Rattle.dimension.proofs.Whole as W
@@ -79,10 +79,10 @@ module _ (x y : ℕ) (h : x < 4294967296) (k : y < 4294967296) (p : (ltb x 32768
   pub whole_difference_fits : SFits w32 (twos 2147483648 x -ℤ twos 2147483648 y)
   whole_difference_fits = fits_small _ difference_small
 
-  pub whole_sum : sum (ratio (twos 2147483648 x) 1) (ratio (twos 2147483648 y) 1) ≡ Is (ratio (twos 2147483648 x +ℤ twos 2147483648 y) 1)
+  pub whole_sum : sum (ratio (twos 2147483648 x) 1) (ratio (twos 2147483648 y) 1) ≡ Some (ratio (twos 2147483648 x +ℤ twos 2147483648 y) 1)
   whole_sum = sym (W.whole_in _ sum_small ∙ W.whole_sum (ratio (twos 2147483648 x) 1) (ratio (twos 2147483648 y) 1) refl refl)
 
-  pub whole_difference : difference (ratio (twos 2147483648 x) 1) (ratio (twos 2147483648 y) 1) ≡ Is (ratio (twos 2147483648 x -ℤ twos 2147483648 y) 1)
+  pub whole_difference : difference (ratio (twos 2147483648 x) 1) (ratio (twos 2147483648 y) 1) ≡ Some (ratio (twos 2147483648 x -ℤ twos 2147483648 y) 1)
   whole_difference = sym (W.whole_in _ difference_small ∙ W.whole_difference (ratio (twos 2147483648 x) 1) (ratio (twos 2147483648 y) 1) refl refl)
 
 -- what so many bits stand for fits in a signed number of 32

@@ -16,17 +16,17 @@ use Rattle.dimension.specs.Integer.{eq_z, up, down}
 use Rattle.dimension.specs.Fraction as F
 use Rattle.dimension.specs.Fraction.{ratio, lowest, limit, within, limited, answer, sum, difference, product, opposite, equal, is_one, is_zero, declared, IsSum, IsDifference, IsProduct, IsOpposite, SameValue, Reduced, Proper, Declared}
 use Rattle.dimension.specs.declared.rational.Rational.{Rational}
-use Rattle.dimension.specs.declared.rational.Ratio.TheVariants.{Is, Over}
+use Rattle.std.specs.declared.option.Option.TheVariants.{None, Some}
 use Rattle.dimension.proofs.Integers.{diff, is, nat, plus, times, scale, turn, same, across, size_neg, size_sum, size_difference, size_product}
 use Rattle.dimension.proofs.Lowest.{alike, lowest_scale, lowest_same, lowest_value, lowest_reduced, fixed, unique}
 use Rattle.dimension.proofs.Parts.{answer_zero}
 
 -- ---- what an answer tells, and when it is given
-chosen : (t : Bool) (a x : Rational) → cond t (Is a) Over ≡ Is x → (a ≡ x) × (t ≡ true)
+chosen : (t : Bool) (a x : Rational) → cond t (Some a) None ≡ Some x → (a ≡ x) × (t ≡ true)
 chosen true a x e = (cc, refl)
 chosen false a x e = (cc, cc)
 
-limited_is : (a x : Rational) → limited a ≡ Is x → (a ≡ x) × (within a ≡ true)
+limited_is : (a x : Rational) → limited a ≡ Some x → (a ≡ x) × (within a ≡ true)
 unfolding limited
 limited_is a x e = chosen (within a) a x e
 
@@ -46,25 +46,25 @@ proper_of a h e =
     }
 
 -- nothing is answered over zero
-pub answer_positive : (n : ℤ) (d : ℕ) (r : Rational) → answer n d ≡ Is r → 0 < d
+pub answer_positive : (n : ℤ) (d : ℕ) (r : Rational) → answer n d ≡ Some r → 0 < d
 answer_positive n zero r e = let z : ◌≡◌ {A = ℕ} 0 1 = cc (answer_zero n) in absurd (omega arith)
 answer_positive n (suc d) r e = omega arith
 
 -- the answer is n / d
-pub answer_value : (n : ℤ) (d : ℕ) (r : Rational) → answer n d ≡ Is r → r.num *ℤ pos d ≡ n *ℤ pos r.den
+pub answer_value : (n : ℤ) (d : ℕ) (r : Rational) → answer n d ≡ Some r → r.num *ℤ pos d ≡ n *ℤ pos r.den
 unfolding answer
 answer_value n d r e =
     subst (λ (a : Rational). a.num *ℤ pos d ≡ n *ℤ pos a.den) (limited_is (lowest n d) r e).0 (lowest_value n d)
 
 -- in lowest terms, within the limits
-pub answer_proper : (n : ℤ) (d : ℕ) (r : Rational) → answer n d ≡ Is r → Proper r
+pub answer_proper : (n : ℤ) (d : ℕ) (r : Rational) → answer n d ≡ Some r → Proper r
 unfolding answer
 answer_proper n d r e =
     let t = limited_is (lowest n d) r e in
     subst Proper t.0 (proper_of (lowest n d) (lowest_reduced n d (answer_positive n d r e)) t.1)
 
--- and it is given wherever there is one, so `Over` is said only where there is none
-pub answer_of_law : (n : ℤ) (d : ℕ) (r : Rational) → 0 < d → Proper r → r.num *ℤ pos d ≡ n *ℤ pos r.den → answer n d ≡ Is r
+-- and it is given wherever there is one, so `None` is said only where there is none
+pub answer_of_law : (n : ℤ) (d : ℕ) (r : Rational) → 0 < d → Proper r → r.num *ℤ pos d ≡ n *ℤ pos r.den → answer n d ≡ Some r
 unfolding answer limited
 answer_of_law n d r h p e =
     let l : lowest n d ≡ r = lowest_same n r.num d r.den h p.reduced.positive (sym e) ∙ fixed r p.reduced in
@@ -75,54 +75,54 @@ pub same_value : (a b : Rational) → Reduced a → Reduced b → SameValue a b 
 same_value a b h k e = unique a b h k e
 
 -- a fraction in lowest terms within the limits is its own answer
-pub answer_self : (a : Rational) → Proper a → answer a.num a.den ≡ Is a
+pub answer_self : (a : Rational) → Proper a → answer a.num a.den ≡ Some a
 answer_self a h = answer_of_law a.num a.den a h.reduced.positive h refl
 
 -- ---- the values. SI Brochure, 9th edition, 2.3.3: exponents of a product add, of a quotient subtract, of a power multiply
 module _ (a b r : Rational) where
-  pub sum_value : sum a b ≡ Is r → IsSum a b r
+  pub sum_value : sum a b ≡ Some r → IsSum a b r
   unfolding sum
   sum_value e = answer_value _ _ r e
 
-  pub difference_value : difference a b ≡ Is r → IsDifference a b r
+  pub difference_value : difference a b ≡ Some r → IsDifference a b r
   unfolding difference
   difference_value e = answer_value _ _ r e
 
-  pub product_value : product a b ≡ Is r → IsProduct a b r
+  pub product_value : product a b ≡ Some r → IsProduct a b r
   unfolding product
   product_value e = answer_value _ _ r e
 
-  pub sum_proper : sum a b ≡ Is r → Proper r
+  pub sum_proper : sum a b ≡ Some r → Proper r
   unfolding sum
   sum_proper e = answer_proper _ _ r e
 
-  pub difference_proper : difference a b ≡ Is r → Proper r
+  pub difference_proper : difference a b ≡ Some r → Proper r
   unfolding difference
   difference_proper e = answer_proper _ _ r e
 
-  pub product_proper : product a b ≡ Is r → Proper r
+  pub product_proper : product a b ≡ Some r → Proper r
   unfolding product
   product_proper e = answer_proper _ _ r e
 
   module _ (h : 0 < a.den) (k : 0 < b.den) (p : Proper r) where
-    pub sum_of : IsSum a b r → sum a b ≡ Is r
+    pub sum_of : IsSum a b r → sum a b ≡ Some r
     unfolding sum
     sum_of e = answer_of_law _ _ r (mul-pos h k) p e
 
-    pub difference_of_law : IsDifference a b r → difference a b ≡ Is r
+    pub difference_of_law : IsDifference a b r → difference a b ≡ Some r
     unfolding difference
     difference_of_law e = answer_of_law _ _ r (mul-pos h k) p e
 
-    pub product_of_law : IsProduct a b r → product a b ≡ Is r
+    pub product_of_law : IsProduct a b r → product a b ≡ Some r
     unfolding product
     product_of_law e = answer_of_law _ _ r (mul-pos h k) p e
 
 module _ (a r : Rational) where
-  pub opposite_value : opposite a ≡ Is r → IsOpposite a r
+  pub opposite_value : opposite a ≡ Some r → IsOpposite a r
   unfolding opposite
   opposite_value e = answer_value _ _ r e
 
-  pub opposite_proper : opposite a ≡ Is r → Proper r
+  pub opposite_proper : opposite a ≡ Some r → Proper r
   unfolding opposite
   opposite_proper e = answer_proper _ _ r e
 
@@ -137,13 +137,13 @@ pub minus_proper : (a : Rational) → Proper a → Proper (minus a)
 minus_proper a h = record { reduced = minus_reduced a h.reduced; num = rw (size_neg a.num) h.num; den = h.den }
 
 -- every exponent has one
-pub opposite_is : (a : Rational) → Proper a → opposite a ≡ Is (minus a)
+pub opposite_is : (a : Rational) → Proper a → opposite a ≡ Some (minus a)
 unfolding opposite
 opposite_is a h = answer_self (minus a) (minus_proper a h)
 
 -- and the opposite's opposite is the exponent
-pub opposite_twice : (a : Rational) → Proper a → opposite (minus a) ≡ Is a
-opposite_twice a h = opposite_is (minus a) (minus_proper a h) ∙ ap (λ (z : ℤ). Is (ratio z a.den)) (neg_ℤ-neg_ℤ a.num)
+pub opposite_twice : (a : Rational) → Proper a → opposite (minus a) ≡ Some a
+opposite_twice a h = opposite_is (minus a) (minus_proper a h) ∙ ap (λ (z : ℤ). Some (ratio z a.den)) (neg_ℤ-neg_ℤ a.num)
 
 -- a difference adds the opposite
 pub difference_sum : (a b : Rational) → difference a b ≡ sum a (minus b)
@@ -190,7 +190,7 @@ ring_product r z m n t e h =
     (simp (scale, times) (same _ _ _ _ (omega (arith, ap (λ (l : ℕ). l * (up m * e)) k, ap (λ (l : ℕ). l * (down m * e)) k))))
 
 -- what was reduced on the way counts as what it was reduced from
-module _ (n : ℤ) (d : ℕ) (x c : Rational) (e : answer n d ≡ Is x) (h : 0 < c.den) where
+module _ (n : ℤ) (d : ℕ) (x c : Rational) (e : answer n d ≡ Some x) (h : 0 < c.den) where
   d_positive : 0 < d * c.den
   d_positive = mul-pos (answer_positive n d x e) h
 
@@ -208,7 +208,7 @@ module _ (n : ℤ) (d : ℕ) (x c : Rational) (e : answer n d ≡ Is x) (h : 0 <
 turned : (a b c : ℕ) → a * b * c ≡ b * c * a
 turned a b c = omega arith
 
-pub sum_assoc : (a b c x y : Rational) → sum a b ≡ Is x → sum b c ≡ Is y → sum x c ≡ sum a y
+pub sum_assoc : (a b c x y : Rational) → sum a b ≡ Some x → sum b c ≡ Some y → sum x c ≡ sum a y
 unfolding sum
 sum_assoc a b c x y p q =
     let h = factors a.den b.den (answer_positive _ _ x p) in
@@ -221,7 +221,7 @@ sum_assoc a b c x y p q =
     ring : (n m k : ℤ) (a b c : ℕ) → (n *ℤ pos b +ℤ m *ℤ pos a) *ℤ pos c +ℤ k *ℤ pos (a * b) ≡ (m *ℤ pos c +ℤ k *ℤ pos b) *ℤ pos a +ℤ n *ℤ pos (b * c)
     ring n m k a b c = rw (is n, is m, is k) (simp (scale, plus) (same _ _ _ _ (omega arith)))
 
-pub product_assoc : (a b c x y : Rational) → product a b ≡ Is x → product b c ≡ Is y → product x c ≡ product a y
+pub product_assoc : (a b c x y : Rational) → product a b ≡ Some x → product b c ≡ Some y → product x c ≡ product a y
 unfolding product
 product_assoc a b c x y p q =
     let h = factors a.den b.den (answer_positive _ _ x p) in
@@ -243,45 +243,45 @@ pub one_proper : Proper F.one
 unfolding gcd euclid
 one_proper = record { reduced = record { coprime = refl; positive = omega arith }; num = omega arith; den = omega arith }
 
-pub sum_zero : (a : Rational) → Proper a → sum a F.zero ≡ Is a
+pub sum_zero : (a : Rational) → Proper a → sum a F.zero ≡ Some a
 sum_zero a h = sum_of a F.zero a h.reduced.positive (omega arith) h (ring a.num a.den)
   where
     ring : (n : ℤ) (d : ℕ) → n *ℤ pos (d * 1) ≡ (n *ℤ pos 1 +ℤ pos (0 * d)) *ℤ pos d
     ring n d = rw (is n, nat (0 * d)) (simp (scale, plus) (same _ _ _ _ (omega arith)))
 
-pub product_one : (a : Rational) → Proper a → product a F.one ≡ Is a
+pub product_one : (a : Rational) → Proper a → product a F.one ≡ Some a
 product_one a h = product_of_law a F.one a h.reduced.positive (omega arith) h (ring a.num a.den)
   where
     ring : (n : ℤ) (d : ℕ) → n *ℤ pos (d * 1) ≡ n *ℤ pos 1 *ℤ pos d
     ring n d = rw (is n) (simp scale (same _ _ _ _ (omega arith)))
 
-pub product_zero : (a : Rational) → 0 < a.den → product a F.zero ≡ Is F.zero
+pub product_zero : (a : Rational) → 0 < a.den → product a F.zero ≡ Some F.zero
 product_zero a h = product_of_law a F.zero F.zero h (omega arith) zero_proper (ring a.num a.den)
   where
     ring : (n : ℤ) (d : ℕ) → pos (0 * (d * 1)) ≡ n *ℤ pos 0 *ℤ pos 1
     ring n d = rw (is n, nat (0 * (d * 1))) (simp scale (same _ _ _ _ (omega arith)))
 
 -- an exponent and its opposite cancel
-pub sum_minus : (a : Rational) → 0 < a.den → sum a (minus a) ≡ Is F.zero
+pub sum_minus : (a : Rational) → 0 < a.den → sum a (minus a) ≡ Some F.zero
 sum_minus a h = sum_of a (minus a) F.zero h h zero_proper (ring a.num a.den)
   where
     ring : (n : ℤ) (d : ℕ) → pos (0 * (d * d)) ≡ (n *ℤ pos d +ℤ neg_ℤ n *ℤ pos d) *ℤ pos 1
     ring n d = rw (is n, nat (0 * (d * d))) (simp (scale, plus, turn) (same _ _ _ _ (omega arith)))
 
-pub difference_self : (a : Rational) → 0 < a.den → difference a a ≡ Is F.zero
+pub difference_self : (a : Rational) → 0 < a.den → difference a a ≡ Some F.zero
 difference_self a h = difference_sum a a ∙ sum_minus a h
 
 -- a − b is x just where x + b is a
-pub sum_back : (a b x : Rational) → Proper a → Proper b → difference a b ≡ Is x → sum x b ≡ Is a
+pub sum_back : (a b x : Rational) → Proper a → Proper b → difference a b ≡ Some x → sum x b ≡ Some a
 sum_back a b x h k e =
     sum_assoc a (minus b) b x F.zero (sym (difference_sum a b) ∙ e) (sum_comm (minus b) b ∙ sum_minus b k.reduced.positive) ∙ sum_zero a h
 
-pub difference_back : (a b x : Rational) → Proper b → Proper x → sum x b ≡ Is a → difference a b ≡ Is x
+pub difference_back : (a b x : Rational) → Proper b → Proper x → sum x b ≡ Some a → difference a b ≡ Some x
 difference_back a b x k l e =
     difference_sum a b ∙ sum_assoc x b (minus b) a F.zero e (sum_minus b k.reduced.positive) ∙ sum_zero x l
 
 -- ---- a power of a product is the product of the powers
-sum_both : (n m : ℤ) (d e : ℕ) (x y : Rational) → answer n d ≡ Is x → answer m e ≡ Is y → sum x y ≡ answer (n *ℤ pos e +ℤ m *ℤ pos d) (d * e)
+sum_both : (n m : ℤ) (d e : ℕ) (x y : Rational) → answer n d ≡ Some x → answer m e ≡ Some y → sum x y ≡ answer (n *ℤ pos e +ℤ m *ℤ pos d) (d * e)
 unfolding sum
 sum_both n m d e x y p q =
     sum_after n d x y p (answer_proper m e y q).reduced.positive
@@ -289,7 +289,7 @@ sum_both n m d e x y p q =
     ∙ sum_after m e y (ratio n d) q (answer_positive n d x p)
     ∙ sum_comm (ratio m e) (ratio n d)
 
-pub product_sum : (a b c x p q : Rational) → sum a b ≡ Is x → product a c ≡ Is p → product b c ≡ Is q → product x c ≡ sum p q
+pub product_sum : (a b c x p q : Rational) → sum a b ≡ Some x → product a c ≡ Some p → product b c ≡ Some q → product x c ≡ sum p q
 unfolding sum product answer
 product_sum a b c x p q e f g =
     let h = factors a.den c.den (answer_positive _ _ p f) in
@@ -379,13 +379,13 @@ unfolding lowest
 den_lowest z d = div-le_self d (gcd (nat_abs z) d)
 
 -- so what is small is answered, and its answer is as small
-small_answer : (z : ℤ) (d : ℕ) → 0 < d → nat_abs z ≤ limit → d ≤ limit → answer z d ≡ Is (lowest z d)
+small_answer : (z : ℤ) (d : ℕ) → 0 < d → nat_abs z ≤ limit → d ≤ limit → answer z d ≡ Some (lowest z d)
 unfolding answer limited
 small_answer z d h p q =
     rw (within_of (lowest z d) (record { reduced = lowest_reduced z d h; num = le_trans (size_lowest z d) p; den = le_trans (den_lowest z d) q }))
 
 -- a fraction of 16-bit parts, reduced, can be declared
-pub small_declared : (n : ℤ) (d : ℕ) → 0 < d → nat_abs n ≤ 32768 → up n ≤ 32767 → d ≤ 32767 → (r : Rational) × (answer n d ≡ Is r) × Declared r
+pub small_declared : (n : ℤ) (d : ℕ) → 0 < d → nat_abs n ≤ 32768 → up n ≤ 32767 → d ≤ 32767 → (r : Rational) × (answer n d ≡ Some r) × Declared r
 small_declared n d h p t q = (
   lowest n d,
   small_answer n d h (omega arith) (omega arith),
@@ -412,10 +412,10 @@ module _ (a b : Rational) (h : Declared a) (k : Declared b) where
   den_positive : 0 < a.den * b.den
   den_positive = mul-pos h.reduced.positive k.reduced.positive
 
-  pub declared_sum : (r : Rational) × (sum a b ≡ Is r) × (nat_abs r.num ≤ 2147418112)
+  pub declared_sum : (r : Rational) × (sum a b ≡ Some r) × (nat_abs r.num ≤ 2147418112)
   unfolding sum
   declared_sum = (_, small_answer _ _ den_positive (omega (arith, small_sum)) small_den, le_trans (size_lowest _ (a.den * b.den)) small_sum)
 
-  pub declared_difference : (r : Rational) × (difference a b ≡ Is r) × (nat_abs r.num ≤ 2147418112)
+  pub declared_difference : (r : Rational) × (difference a b ≡ Some r) × (nat_abs r.num ≤ 2147418112)
   unfolding difference
   declared_difference = (_, small_answer _ _ den_positive (omega (arith, small_difference)) small_den, le_trans (size_lowest _ (a.den * b.den)) small_difference)

@@ -9,7 +9,7 @@ use lib.Signed.{quot_z}
 use Rattle.dimension.specs.Gcd.{gcd}
 use Rattle.dimension.specs.Integer.{up, down, signed}
 use Rattle.dimension.specs.Fraction.{ratio, lowest, within, limited, answer}
-use Rattle.dimension.specs.declared.rational.Ratio.TheVariants.{Over}
+use Rattle.std.specs.declared.option.Option.TheVariants.{None}
 use Rattle.dimension.proofs.Integers.{diff, is_up, is_down, is, plus, turn, times, scale}
 use Rattle.dimension.proofs.Signs.{signed_size}
 
@@ -35,7 +35,7 @@ unfolding lowest
 lowest_signed t n d g e = rw (signed_size t n, ← e, quotient t n g)
 
 -- nothing over zero is a fraction
-pub answer_zero : (z : ℤ) → answer z 0 ≡ Over
+pub answer_zero : (z : ℤ) → answer z 0 ≡ None
 unfolding limited within lowest answer
 answer_zero z = rw (zero-div (gcd (nat_abs z) 0)) (simp and-false)
 

@@ -1,10 +1,10 @@
--- What the crate's own `each` does with two exponents; no public function is stated by it.
-use Rattle.dimension.specs.Fraction as F
+-- What a rule on two exponents computes; no public function is stated by it.
+use Rattle.std.specs.Prelude.{◌≡◌, ℕ, ◌<◌, get_or}
+use mathlib.Core.List.{List}
 use Rattle.dimension.specs.declared.rational.Rational.{Rational}
-use Rattle.dimension.specs.declared.rational.Ratio.{Ratio}
-use Rattle.dimension.specs.declared.dimensions.Rule.{Rule}
-use Rattle.dimension.specs.declared.dimensions.Rule.TheVariants.{Add, Minus}
+use Rattle.std.specs.declared.option.Option.{Option}
 
-abbrev pub applied : Rule → Rational → Rational → Ratio
-applied Add a b = F.sum a b
-applied Minus a b = F.difference a b
+-- of the exponents of each base the rule, of which R says what it can answer, answers what f does
+abbrev pub Computes : (Rational → Rational → Option Rational → Type 0) → (Rational → Rational → Option Rational) → List Rational → List Rational → Type 0
+Computes R f a b =
+    (k : ℕ) (d : Rational) (x : Option Rational) → k < 12 → R (get_or a k d) (get_or b k d) x → x ≡ f (get_or a k d) (get_or b k d)

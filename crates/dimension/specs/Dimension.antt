@@ -2,14 +2,13 @@
 -- factors' exponents, those of a quotient the differences, those of a power the products with its exponent.
 use Rattle.std.specs.Prelude.{Bool, true, false, ◌&&◌, ◌≡◌, ℕ, ◌<◌, length, get_or, replicate}
 use mathlib.Core.List.{List, [], ◌∷◌, zip_with, map}
-use Rattle.std.proofs.Math.Option.{Option, some, none}
+use Rattle.std.specs.declared.option.Option.{Option}
+use Rattle.std.specs.declared.option.Option.TheVariants.{None, Some}
+use Rattle.std.specs.Option.{unwrap_or}
 use Rattle.laws.specs.Options.{found}
 use Rattle.dimension.specs.Fraction as F
 use Rattle.dimension.specs.declared.rational.Rational.{Rational}
-use Rattle.dimension.specs.declared.rational.Ratio.{Ratio}
-use Rattle.dimension.specs.declared.rational.Ratio.TheVariants.{Is, Over}
 use Rattle.dimension.specs.declared.dimensions.Dimensions.{Dimensions}
-use Rattle.dimension.specs.declared.dimensions.Outcome.{Outcome}
 
 abbrev pub dimensions : List Rational → Dimensions
 dimensions l = record { powers = l }
@@ -19,30 +18,26 @@ abbrev pub one : Dimensions
 one = dimensions (replicate 12 F.zero)
 
 -- all of the fractions, where none is over the limits
-abbrev pub all : List Ratio → Option (List Rational)
-all [] = some []
-all (Is a ∷ l) = found (all l) (λ m. some (a ∷ m)) none
-all (Over ∷ l) = none
+abbrev pub all : List (Option Rational) → Option (List Rational)
+all [] = Some []
+all (Some a ∷ l) = found (all l) (λ m. Some (a ∷ m)) None
+all (None ∷ l) = None
 
--- these dimensions
-abbrev pub fine : Dimensions → Outcome
-fine v = record { over = false; value = v }
+unfoldable pub outcome : List (Option Rational) → Option Dimensions
+outcome l = found (all l) (λ m. Some (dimensions m)) None
 
--- some exponent is over the limits; dimension one then stands for the value
-abbrev pub beyond : Outcome
-beyond = record { over = true; value = one }
-
-unfoldable pub outcome : List Ratio → Outcome
-outcome l = found (all l) (λ m. fine (dimensions m)) beyond
-
-unfoldable pub product : Dimensions → Dimensions → Outcome
+unfoldable pub product : Dimensions → Dimensions → Option Dimensions
 product a b = outcome (zip_with F.sum a.powers b.powers)
 
-unfoldable pub quotient : Dimensions → Dimensions → Outcome
+unfoldable pub quotient : Dimensions → Dimensions → Option Dimensions
 quotient a b = outcome (zip_with F.difference a.powers b.powers)
 
-unfoldable pub power : Dimensions → Rational → Outcome
+unfoldable pub power : Dimensions → Rational → Option Dimensions
 power a e = outcome (map (λ (x : Rational). F.product x e) a.powers)
+
+-- these, or dimension one where an exponent of theirs is over the limits
+abbrev pub or_one : Option Dimensions → Dimensions
+or_one o = unwrap_or o one
 
 abbrev pub alike : List Rational → List Rational → Bool
 alike [] [] = true

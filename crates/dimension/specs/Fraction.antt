@@ -4,8 +4,8 @@ use Rattle.std.specs.Int.Signed.{quot_z}
 use Rattle.dimension.specs.Gcd.{gcd}
 use Rattle.dimension.specs.Integer.{eq_z, up}
 use Rattle.dimension.specs.declared.rational.Rational.{Rational}
-use Rattle.dimension.specs.declared.rational.Ratio.{Ratio}
-use Rattle.dimension.specs.declared.rational.Ratio.TheVariants.{Is, Over}
+use Rattle.std.specs.declared.option.Option.{Option}
+use Rattle.std.specs.declared.option.Option.TheVariants.{None, Some}
 
 -- n / d
 abbrev pub ratio : ℤ → ℕ → Rational
@@ -29,24 +29,24 @@ unfoldable pub within : Rational → Bool
 within a = leb (nat_abs a.num) limit && ltb 0 a.den && leb a.den limit
 
 -- a, or that it is over the limits
-unfoldable pub limited : Rational → Ratio
-limited a = cond (within a) (Is a) Over
+unfoldable pub limited : Rational → Option Rational
+limited a = cond (within a) (Some a) None
 
 -- 01: "reduced first": n / d in lowest terms, or that this is over the limits; so is whatever stands over 0
-unfoldable pub answer : ℤ → ℕ → Ratio
+unfoldable pub answer : ℤ → ℕ → Option Rational
 answer n d = limited (lowest n d)
 
 -- the textbook's sum, difference, product and opposite of two fractions
-unfoldable pub sum : Rational → Rational → Ratio
+unfoldable pub sum : Rational → Rational → Option Rational
 sum a b = answer (a.num *ℤ pos b.den +ℤ b.num *ℤ pos a.den) (a.den * b.den)
 
-unfoldable pub difference : Rational → Rational → Ratio
+unfoldable pub difference : Rational → Rational → Option Rational
 difference a b = answer (a.num *ℤ pos b.den -ℤ b.num *ℤ pos a.den) (a.den * b.den)
 
-unfoldable pub product : Rational → Rational → Ratio
+unfoldable pub product : Rational → Rational → Option Rational
 product a b = answer (a.num *ℤ b.num) (a.den * b.den)
 
-unfoldable pub opposite : Rational → Ratio
+unfoldable pub opposite : Rational → Option Rational
 opposite a = answer (neg_ℤ a.num) a.den
 
 -- written alike; two in lowest terms are so just where their values are equal

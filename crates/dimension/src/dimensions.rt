@@ -1,92 +1,30 @@
 // The dimensions of quantities: an exponent for each of twelve base quantities.
-ghost use Rattle.std.specs.Prelude.{◌≡◌};
+ghost use Rattle.std.specs.Prelude.{◌≡◌, Option};
 ghost use mathlib.Core.List.{zip_with};
 ghost use Rattle.dimension.specs.Dimension as D;
-ghost use Rattle.dimension.specs.Applied as Applied;
+ghost use Rattle.dimension.specs.Applied.{Computes};
 
-use crate::rational::{Ratio, Rational, ZERO};
+use crate::rational::{Rational, ZERO};
 
-#[derive(Clone, Copy)]
+#[derive(Clone, Copy, PartialEq, Eq)]
 pub struct Dimensions {
     pub powers: [Rational; 12],
 }
 
-// Dimensions; or that an exponent of theirs is over the limits, and then dimension one beside it.
-#[derive(Clone, Copy)]
-pub struct Outcome {
-    pub over: bool,
-    pub value: Dimensions,
-}
-
-// What is done with two exponents.
-#[derive(Clone, Copy)]
-enum Rule {
-    Add,
-    Minus,
-}
-
-fn applied(rule: Rule, a: Rational, b: Rational) -> Ratio
-    ensures { result ≡ Applied.applied rule a b }
-{
-    match rule {
-        Rule::Add => a.add(b),
-        Rule::Minus => a.minus(b),
-    }
-}
-
-// The rule, exponent by exponent.
-fn each(rule: Rule, a: Dimensions, b: Dimensions) -> Outcome
-    ensures { result ≡ D.outcome (zip_with (Applied.applied rule) a.powers b.powers) }
+// The rule, exponent by exponent; none where one of them is over the limits.
+fn each<F: Fn(Rational, Rational) -> Option<Rational>>(
+    a: [Rational; 12],
+    b: [Rational; 12],
+    rule: F,
+) -> Option<Dimensions>
+    requires { F.IsAlwaysCallable rule }
+    ensures { (f : Rational → Rational → Option Rational) → Computes (λ x y r. F.post rule x y r) f a b → result ≡ D.outcome (zip_with f a b) }
 {
     let mut out = a;
-    let mut i = 0;
-    while i < 12 {
-        let x = a.powers[i];
-        let y = b.powers[i];
-        match applied(rule, x, y) {
-            Ratio::Is(z) => {
-                out.powers[i] = z;
-            }
-            Ratio::Over => {
-                return Outcome {
-                    over: true,
-                    value: Dimensions::one(),
-                };
-            }
-        }
-        i += 1;
+    for i in 0..12 {
+        out[i] = rule(a[i], b[i])?;
     }
-    Outcome {
-        over: false,
-        value: out,
-    }
-}
-
-// Each exponent times e.
-fn raised(a: Dimensions, e: Rational) -> Outcome
-    ensures { result ≡ D.power a e }
-{
-    let mut out = a;
-    let mut i = 0;
-    while i < 12 {
-        let x = a.powers[i];
-        match x.times(e) {
-            Ratio::Is(z) => {
-                out.powers[i] = z;
-            }
-            Ratio::Over => {
-                return Outcome {
-                    over: true,
-                    value: Dimensions::one(),
-                };
-            }
-        }
-        i += 1;
-    }
-    Outcome {
-        over: false,
-        value: out,
-    }
+    Some(Dimensions { powers: out })
 }
 
 impl Dimensions {
@@ -94,40 +32,33 @@ impl Dimensions {
     pub fn one() -> Dimensions
         ensures { result ≡ D.one }
     {
-        let p = [ZERO; 12];
-        Dimensions { powers: p }
+        Dimensions { powers: [ZERO; 12] }
     }
 
-    pub fn product(self, other: Dimensions) -> Outcome
+    #[tactic(auto, unfolding(crate::specs::Dimension::product))]
+    pub fn product(self, other: Dimensions) -> Option<Dimensions>
         ensures { result ≡ D.product self other }
     {
-        each(Rule::Add, self, other)
+        each(self.powers, other.powers, Rational::add)
     }
 
-    pub fn quotient(self, other: Dimensions) -> Outcome
+    #[tactic(auto, unfolding(crate::specs::Dimension::quotient))]
+    pub fn quotient(self, other: Dimensions) -> Option<Dimensions>
         ensures { result ≡ D.quotient self other }
     {
-        each(Rule::Minus, self, other)
+        each(self.powers, other.powers, Rational::minus)
     }
 
-    pub fn pow(self, exponent: Rational) -> Outcome
+    pub fn pow(self, exponent: Rational) -> Option<Dimensions>
         ensures { result ≡ D.power self exponent }
     {
-        raised(self, exponent)
+        each(self.powers, [exponent; 12], Rational::times)
     }
 
+    #[tactic(auto, using(crate::proofs::Places::pointwise_alike, crate::proofs::Signs::same_fraction), unfolding(crate::specs::Dimension::equal))]
     pub fn equals(self, other: Dimensions) -> bool
         ensures { result ≡ D.equal self other }
     {
-        let mut i = 0;
-        while i < 12 {
-            let a = self.powers[i];
-            let b = other.powers[i];
-            if !a.equals(b) {
-                return false;
-            }
-            i += 1;
-        }
-        true
+        self == other
     }
 }

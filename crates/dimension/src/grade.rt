@@ -5,19 +5,12 @@ ghost use Rattle.dimension.specs.Grade as G;
 use crate::rational::Rational;
 
 // The products of two kinds.
-#[derive(Clone, Copy)]
+#[derive(Clone, Copy, PartialEq, Eq)]
 pub enum ProductOp {
     Mul,
     Div,
     Dot,
     Wedge,
-}
-
-// A single grade, or that there is none.
-#[derive(Clone, Copy)]
-pub enum Grade {
-    Single(u8),
-    Absent,
 }
 
 // The grade of a scalar.
@@ -45,38 +38,34 @@ fn entry(op: ProductOp, i: usize) -> u8
     }
 }
 
-// What an entry says.
-fn graded(entry: u8) -> Grade
+// What an entry says: a single grade, or that there is none.
+fn graded(entry: u8) -> Option<u8>
     ensures { result ≡ G.graded entry }
 {
-    if entry < 4 {
-        Grade::Single(entry)
-    } else {
-        Grade::Absent
-    }
+    if entry < 4 { Some(entry) } else { None }
 }
 
 // The grade of `a op b`.
-pub fn product_grade(op: ProductOp, a: u8, b: u8) -> Grade
+#[tactic(auto, unfolding(crate::specs::Grade::product))]
+pub fn product_grade(op: ProductOp, a: u8, b: u8) -> Option<u8>
     ensures { result ≡ G.product op a b }
 {
-    if a <= 3 {
-        if b <= 3 {
-            return graded(entry(op, a as usize * 4 + b as usize));
-        }
+    if a <= 3 && b <= 3 {
+        return graded(entry(op, a as usize * 4 + b as usize));
     }
-    Grade::Absent
+    None
 }
 
 // The grade of a power of what has grade a.
-pub fn power_grade(a: u8, exponent: Rational) -> Grade
+#[tactic(auto, unfolding(crate::specs::Grade::power))]
+pub fn power_grade(a: u8, exponent: Rational) -> Option<u8>
     ensures { result ≡ G.power a exponent }
 {
     if exponent.is_one() {
         return graded(a);
     }
     if a == SCALAR {
-        return Grade::Single(0);
+        return Some(0);
     }
-    Grade::Absent
+    None
 }

@@ -9,6 +9,7 @@ pub(crate) fn gcd(a: u64, b: u64) -> u64
 {
     let mut x = a;
     let mut y = b;
+    // Not a `for`: how often it turns is not known before, only that y gets smaller.
     while y != 0 {
         let t = x % y;
         x = y;
@@ -30,14 +31,14 @@ pub(crate) fn down(x: i32) -> u32
     ensures value { result ≡ I.down x }
     ensures upper_bound { result ≤ 2147483648 }
 {
-    if x < 0 { (-(x as i64)) as u32 } else { 0 }
+    if x < 0 { x.unsigned_abs() } else { 0 }
 }
 
 // |x|.
 pub(crate) fn size(x: i32) -> u64
     ensures { result ≡ nat_abs x }
 {
-    up(x) as u64 + down(x) as u64
+    x.unsigned_abs() as u64
 }
 
 // x with a sign.
@@ -64,53 +65,23 @@ pub(crate) fn cross(a: u32, b: u32, c: u32, d: u32) -> u64
     a as u64 * b as u64 + c as u64 * d as u64
 }
 
-pub(crate) fn added(a: i32, b: i32) -> i64
-    ensures { result ≡ a +ℤ b }
-{
-    a as i64 + b as i64
-}
-
-pub(crate) fn subtracted(a: i32, b: i32) -> i64
-    ensures { result ≡ a -ℤ b }
-{
-    a as i64 - b as i64
-}
-
-pub(crate) fn multiplied(a: i32, b: i32) -> i64
-    ensures { result ≡ a *ℤ b }
-{
-    a as i64 * b as i64
-}
-
 // The number that 16 bits stand for, by two's complement.
 pub fn signed16(bits: u16) -> i32
     ensures { result ≡ I.twos 32768 bits }
 {
-    if bits < 32768 {
-        bits as i32
-    } else {
-        bits as i32 - 65536
-    }
+    bits.cast_signed() as i32
 }
 
 // The number that 32 bits stand for, by two's complement.
 pub fn signed32(bits: u32) -> i32
     ensures { result ≡ I.twos 2147483648 bits }
 {
-    if bits < 2147483648 {
-        bits as i32
-    } else {
-        -((4294967295 - bits) as i32) - 1
-    }
+    bits.cast_signed()
 }
 
 // The 32 bits that stand for a number.
 pub fn bits32(x: i32) -> u32
     ensures { result ≡ I.bits32 x }
 {
-    if x < 0 {
-        (x as i64 + 4294967296) as u32
-    } else {
-        x as u32
-    }
+    x.cast_unsigned()
 }

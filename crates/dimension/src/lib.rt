@@ -7,7 +7,7 @@ mod grade;
 mod integer;
 mod rational;
 
-pub use dimensions::{Dimensions, Outcome};
-pub use grade::{Grade, ProductOp, power_grade, product_grade};
+pub use dimensions::Dimensions;
+pub use grade::{ProductOp, power_grade, product_grade};
 pub use integer::{bits32, signed16, signed32};
-pub use rational::{ONE, Ratio, Rational, ZERO};
+pub use rational::{ONE, Rational, ZERO};

@@ -5,20 +5,13 @@ ghost use Rattle.std.proofs.Math.IntN.{sub_ℕ};
 ghost use Rattle.dimension.specs.Fraction as F;
 ghost use Rattle.dimension.specs.Integer as I;
 
-use crate::integer::{added, by, cross, down, gcd, multiplied, signed, size, subtracted, up};
+use crate::integer::{by, cross, down, gcd, signed, size, up};
 
-// num / den.
-#[derive(Clone, Copy)]
+// num / den. An operation answers with a fraction in lowest terms within the limits, or with none.
+#[derive(Clone, Copy, PartialEq, Eq)]
 pub struct Rational {
     pub num: i32,
     pub den: u32,
-}
-
-// A fraction in lowest terms within the limits, or that there is none.
-#[derive(Clone, Copy)]
-pub enum Ratio {
-    Is(Rational),
-    Over,
 }
 
 pub const ZERO: Rational = Rational { num: 0, den: 1 };
@@ -31,38 +24,36 @@ const LIMIT: u64 = 2147483647;
 const LOWEST: i64 = -2147483647;
 
 // num / den with its sign, if it is within the limits.
-fn limited(negative: bool, num: u64, den: u64) -> Ratio
+#[tactic(auto, using(crate::proofs::Signs::signed_size), unfolding(crate::specs::Fraction::limited, crate::specs::Fraction::within))]
+fn limited(negative: bool, num: u64, den: u64) -> Option<Rational>
     ensures { result ≡ F.limited (F.ratio (I.signed negative num) den) }
 {
-    if 0 < den {
-        if den <= LIMIT {
-            if num <= LIMIT {
-                return Ratio::Is(Rational {
-                    num: signed(negative, num),
-                    den: den as u32,
-                });
-            }
-        }
+    if num <= LIMIT && 0 < den && den <= LIMIT {
+        return Some(Rational {
+            num: signed(negative, num),
+            den: den as u32,
+        });
     }
-    Ratio::Over
+    None
 }
 
 // num / den with its sign, in lowest terms. Zero needs no divisor.
-fn reduced(negative: bool, num: u64, den: u64) -> Ratio
+#[tactic(auto, using(crate::proofs::Whole::reductions), unfolding(crate::specs::Fraction::answer))]
+fn reduced(negative: bool, num: u64, den: u64) -> Option<Rational>
     ensures { result ≡ F.answer (I.signed negative num) den }
 {
     if den == 0 {
-        return Ratio::Over;
+        return None;
     }
     if num == 0 {
-        return Ratio::Is(ZERO);
+        return Some(ZERO);
     }
     let g = gcd(num, den);
     limited(negative, num / g, den / g)
 }
 
 // (up - down) / den in lowest terms.
-fn parted(up: u64, down: u64, den: u64) -> Ratio
+fn parted(up: u64, down: u64, den: u64) -> Option<Rational>
     ensures { result ≡ F.answer (sub_ℕ up down) den }
 {
     if down <= up {
@@ -73,23 +64,25 @@ fn parted(up: u64, down: u64, den: u64) -> Ratio
 }
 
 // A whole number needs no divisor either.
-fn whole(n: i64) -> Ratio
+#[tactic(auto, using(crate::proofs::Whole::wholes))]
+fn whole(n: i64) -> Option<Rational>
     ensures { result ≡ F.answer n 1 }
 {
     if n < LOWEST {
-        return Ratio::Over;
+        return None;
     }
     if 2147483647 < n {
-        return Ratio::Over;
+        return None;
     }
-    Ratio::Is(Rational {
+    Some(Rational {
         num: n as i32,
         den: 1,
     })
 }
 
 // The sum of any two fractions, the parts above and below zero by themselves.
-fn sum(a: Rational, b: Rational) -> Ratio
+#[tactic(auto, using(crate::proofs::Parts::sum_parts), unfolding(crate::specs::Fraction::sum))]
+fn sum(a: Rational, b: Rational) -> Option<Rational>
     ensures { result ≡ F.sum a b }
 {
     let above = cross(up(a.num), b.den, up(b.num), a.den);
@@ -97,7 +90,8 @@ fn sum(a: Rational, b: Rational) -> Ratio
     parted(above, below, by(a.den, b.den))
 }
 
-fn difference(a: Rational, b: Rational) -> Ratio
+#[tactic(auto, using(crate::proofs::Parts::difference_parts), unfolding(crate::specs::Fraction::difference))]
+fn difference(a: Rational, b: Rational) -> Option<Rational>
     ensures { result ≡ F.difference a b }
 {
     let above = cross(up(a.num), b.den, down(b.num), a.den);
@@ -105,7 +99,8 @@ fn difference(a: Rational, b: Rational) -> Ratio
     parted(above, below, by(a.den, b.den))
 }
 
-fn product(a: Rational, b: Rational) -> Ratio
+#[tactic(auto, using(crate::proofs::Parts::product_parts), unfolding(crate::specs::Fraction::product))]
+fn product(a: Rational, b: Rational) -> Option<Rational>
     ensures { result ≡ F.product a b }
 {
     let n = up(a.num);
@@ -119,7 +114,7 @@ fn product(a: Rational, b: Rational) -> Ratio
 
 impl Rational {
     // num / den: reduced first, tested against the limits then.
-    pub fn new(num: i32, den: u32) -> Ratio
+    pub fn new(num: i32, den: u32) -> Option<Rational>
         ensures { result ≡ F.answer num den }
     {
         if den == 1 {
@@ -128,57 +123,58 @@ impl Rational {
         parted(up(num) as u64, down(num) as u64, den as u64)
     }
 
-    pub fn add(self, other: Rational) -> Ratio
+    #[tactic(auto, using(crate::proofs::Whole::widened_sum))]
+    pub fn add(self, other: Rational) -> Option<Rational>
         ensures { result ≡ F.sum self other }
     {
-        if self.den == 1 {
-            if other.den == 1 {
-                return whole(added(self.num, other.num));
-            }
+        if self.den == 1 && other.den == 1 {
+            return whole(self.num as i64 + other.num as i64);
         }
         sum(self, other)
     }
 
-    pub fn minus(self, other: Rational) -> Ratio
+    #[tactic(auto, using(crate::proofs::Whole::widened_difference))]
+    pub fn minus(self, other: Rational) -> Option<Rational>
         ensures { result ≡ F.difference self other }
     {
-        if self.den == 1 {
-            if other.den == 1 {
-                return whole(subtracted(self.num, other.num));
-            }
+        if self.den == 1 && other.den == 1 {
+            return whole(self.num as i64 - other.num as i64);
         }
         difference(self, other)
     }
 
-    pub fn times(self, other: Rational) -> Ratio
+    #[tactic(auto, using(crate::proofs::Whole::widened_product))]
+    pub fn times(self, other: Rational) -> Option<Rational>
         ensures { result ≡ F.product self other }
     {
-        if self.den == 1 {
-            if other.den == 1 {
-                return whole(multiplied(self.num, other.num));
-            }
+        if self.den == 1 && other.den == 1 {
+            return whole(self.num as i64 * other.num as i64);
         }
         product(self, other)
     }
 
-    pub fn negate(self) -> Ratio
+    #[tactic(auto, using(crate::proofs::Parts::opposite_parts), unfolding(crate::specs::Fraction::opposite))]
+    pub fn negate(self) -> Option<Rational>
         ensures { result ≡ F.opposite self }
     {
         parted(down(self.num) as u64, up(self.num) as u64, self.den as u64)
     }
 
+    #[tactic(auto, using(crate::proofs::Signs::same_fraction))]
     pub fn equals(self, other: Rational) -> bool
         ensures { result ≡ F.equal self other }
     {
-        (self.num == other.num) & (self.den == other.den)
+        self == other
     }
 
+    #[tactic(auto, using(crate::proofs::Signs::one_test), unfolding(crate::specs::Fraction::is_one))]
     pub fn is_one(self) -> bool
         ensures { result ≡ F.is_one self }
     {
         (0 < self.den) & (up(self.num) == self.den)
     }
 
+    #[tactic(auto, using(crate::proofs::Signs::same_bits), unfolding(crate::specs::Fraction::is_zero))]
     pub fn is_zero(self) -> bool
         ensures { result ≡ F.is_zero self }
     {
@@ -186,6 +182,7 @@ impl Rational {
     }
 
     // Whether a catalog can declare it.
+    #[tactic(auto, using(crate::proofs::Whole::gcd_one), unfolding(crate::specs::Fraction::declared))]
     pub fn declared(self) -> bool
         ensures { result ≡ F.declared self }
     {

@@ -1,11 +1,9 @@
--- The code's numbers are those of the rules: whatever refusal of the rules a case of code stands for, it has that refusal's number and values, and
--- dimensions are returned with it exactly where the rules return them.
+-- The code's numbers are those of the rules: whatever refusal of the rules a case of code stands for, it has that refusal's number, and returns the same dimensions and values.
 use mathlib.Core.Path.{◌≡◌, refl}
-use Rattle.laws.specs.Options.{is_some}
 use Rattle.rules.specs.Refusal.{Refusal, told, ImageLength, WrongBlock, Schema, WrongByte, Short, EmptyId, Duplicate, Unknown, AffineDimensionMismatch, NestedAffineSpace, InvalidDimensionlessKind, InvalidTimeKind, NoTimeKind, PointRate, UnresolvedDimensions, RateMismatch, AlsoRateOf, CommutativeQuotient, Point, Ungraded, InvalidOperationRule, DerivedOperationRule, ConflictingOperationRule, PowerOverLimits, NoTable, NoKind, KindMismatch, UnsupportedOperation, UnresolvedTwin, NoProductKind, UngradedPower, NoPowerKind, UnresolvedPowerTwin, NumberTerm, Malformed}
-use Rattle.error.specs.Shown.{error_of, says, said_of, has_dims}
+use Rattle.error.specs.Shown.{error_of, says, said_of}
 
-pub said_told : (x : Refusal) → said_of (error_of x) ≡ says (told x).number (told x).values
+pub said_told : (x : Refusal) → said_of (error_of x) ≡ says (told x).number (told x).dims (told x).values
 unfolding told said_of
 said_told (ImageLength n) = refl
 said_told (WrongBlock b) = refl
@@ -42,41 +40,3 @@ said_told (NoPowerKind d) = refl
 said_told (UnresolvedPowerTwin k e ks) = refl
 said_told (NumberTerm c k) = refl
 said_told (Malformed p) = refl
-
-pub dims_told : (x : Refusal) → has_dims (error_of x) ≡ is_some (told x).dims
-unfolding told said_of has_dims
-dims_told (ImageLength n) = refl
-dims_told (WrongBlock b) = refl
-dims_told (Schema v) = refl
-dims_told (WrongByte i) = refl
-dims_told (Short n) = refl
-dims_told (EmptyId k) = refl
-dims_told (Duplicate k) = refl
-dims_told (Unknown i) = refl
-dims_told (AffineDimensionMismatch k d) = refl
-dims_told (NestedAffineSpace k d) = refl
-dims_told (InvalidDimensionlessKind k) = refl
-dims_told (InvalidTimeKind k) = refl
-dims_told (NoTimeKind k t) = refl
-dims_told (PointRate k t p) = refl
-dims_told (UnresolvedDimensions k) = refl
-dims_told (RateMismatch x) = refl
-dims_told (AlsoRateOf k) = refl
-dims_told (CommutativeQuotient i) = refl
-dims_told (Point l op r k) = refl
-dims_told (Ungraded l r a b) = refl
-dims_told (InvalidOperationRule x) = refl
-dims_told (DerivedOperationRule k) = refl
-dims_told (ConflictingOperationRule l r) = refl
-dims_told (PowerOverLimits k) = refl
-dims_told NoTable = refl
-dims_told (NoKind k) = refl
-dims_told (KindMismatch x a) = refl
-dims_told (UnsupportedOperation c l r) = refl
-dims_told (UnresolvedTwin l op r ks) = refl
-dims_told (NoProductKind x) = refl
-dims_told (UngradedPower g) = refl
-dims_told (NoPowerKind d) = refl
-dims_told (UnresolvedPowerTwin k e ks) = refl
-dims_told (NumberTerm c k) = refl
-dims_told (Malformed p) = refl

@@ -1,8 +1,12 @@
-// What a call hands back: an answer, or why it is refused. The refusals get document 01's numbers here.
+// Why something is refused, and at which place: what every call hands back in an `Err`. The refusals get document 01's numbers here.
 #![tactic(auto)]
 
-mod answer;
 mod cause;
+mod fault;
+mod op;
+mod said;
 
-pub use answer::{Answer, Link, Verdict, plain, refused};
-pub use cause::{Error, Said, returns_dimensions, say};
+pub use cause::Error;
+pub use fault::Fault;
+pub use op::{Op, op_code};
+pub use said::{Said, say};

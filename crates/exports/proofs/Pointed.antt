@@ -1,12 +1,12 @@
 -- The three words of the report's part: they point at it, and what the code writes are they. Assumes nothing.
-use Prim.Native.Nat.{ℕ, zero, suc, ◌+◌, ◌<◌, ◌≤◌}
+use Prim.Native.Nat.{ℕ, zero, suc, ◌+◌, ◌≤◌}
 use mathlib.Core.Path.{◌≡◌, refl, sym, ◌∙◌, ap, subst}
 use mathlib.Core.Bool.{Bool, true, false, cond, not}
 use mathlib.Core.List.{List, [], ◌∷◌}
 use native.Mathlib.Omega.{arith}
-use borrow.Author.Tests.{le-leb, lt-leb, ne_eqb}
+use borrow.Author.Tests.{ne_eqb}
 use lib.Dec.{eqb, ltb}
-use lib.ListN.{length, take, drop, set, get_or, length-take, length-drop}
+use lib.ListN.{length, take, drop, get_or, length-take, length-drop}
 use lib.Seq.{take_all}
 use Rattle.laws.specs.Options.{found}
 use Rattle.laws.specs.Out.{given, refused}
@@ -17,6 +17,7 @@ use Rattle.rules.specs.Image.{image_check}
 use Rattle.rules.specs.Layout.{kind_count, filled}
 use Rattle.rules.specs.Refusal.{Placed}
 use Rattle.rules.specs.Report.{id_part, kind_part, report}
+use Rattle.exports.specs.Shown.{has_room_for, laid}
 use Rattle.exports.specs.Part.{term_by, kind_start, part_words, pointed, has_part_room, part_written}
 
 -- ---- the words point at the report's part
@@ -77,35 +78,19 @@ unfolding part_words report
 part_within image word Number = omega arith
 part_within image word (Kind k) = kind_within image k
 
--- ---- a lent buffer
-module _ (old : List ℕ) (x y z : ℕ) where
-  pub no_part_room : length old < 3 → (false ≡ has_part_room old) × (old ≡ part_written (x ∷ y ∷ z ∷ []) old)
-  unfolding has_part_room part_written
-  no_part_room h = rw (lt-leb 3 (length old) h) (refl, refl)
-
-  over : (l : List ℕ) → 3 ≤ length l → set (set (set l 0 x) 1 y) 2 z ≡ overlay (x ∷ y ∷ z ∷ []) l
-  over [] h = absurd (omega (arith, h))
-  over (a ∷ []) h = absurd (omega (arith, h))
-  over (a ∷ b ∷ []) h = absurd (omega (arith, h))
-  over (a ∷ b ∷ c ∷ l) h = refl
-
-  pub part_room : 3 ≤ length old → (true ≡ has_part_room old) × (set (set (set old 0 x) 1 y) 2 z ≡ part_written (x ∷ y ∷ z ∷ []) old)
-  unfolding has_part_room part_written
-  part_room h = rw (le-leb 3 (length old) h) (refl, over old h)
-
 -- ---- what the call promises, by what it is asked to report
 abbrev Promised : List ℕ → List ℕ → List ℕ → Bool → List ℕ → Term → Type 0
 Promised image word old v new t = (v ≡ has_part_room old) × ((new ≡ part_written (part_words image word t) old) × (v ≡ true → pointed image word new ≡ report image word t))
 
-module _ (image word old : List ℕ) {v : Bool} {new : List ℕ} (h : v ≡ has_part_room old) where
-  promised : (t : Term) → new ≡ part_written (part_words image word t) old → Promised image word old v new t
+module _ (image word old : List ℕ) {v : Bool} {new : List ℕ} where
+  promised : (t : Term) → v ≡ has_part_room old → new ≡ part_written (part_words image word t) old → Promised image word old v new t
   unfolding part_written
-  promised t e = (h, (e, λ q. rw (e, sym h ∙ q) (report_lies image word old t)))
+  promised t h e = (h, (e, λ q. rw (e, sym h ∙ q) (report_lies image word old t)))
 
-  pub kind_promised : {b : Bool} (k : ℕ) {p : ℕ} {l : List ℕ} → b ≡ true → l ≡ kind_part image k → p ≡ kind_start k (length l) → new ≡ part_written (1 ∷ p ∷ length l ∷ []) old → Promised image word old v new (term_by b k)
-  unfolding term_by part_words report
-  kind_promised k q e g i = rw q (promised (Kind k) (i ∙ rw (g, e)))
+  pub kind_promised : {b : Bool} (k : ℕ) {p : ℕ} {l : List ℕ} → b ≡ true → l ≡ kind_part image k → p ≡ kind_start k (length l) → v ≡ has_room_for (1 ∷ p ∷ length l ∷ []) old → new ≡ laid (1 ∷ p ∷ length l ∷ []) old → Promised image word old v new (term_by b k)
+  unfolding term_by part_words report has_part_room part_written has_room_for laid
+  kind_promised k q e g h i = rw q (promised (Kind k) h (i ∙ rw (g, e)))
 
-  pub number_promised : {b : Bool} (k : ℕ) → b ≡ false → new ≡ part_written (0 ∷ 0 ∷ length word ∷ []) old → Promised image word old v new (term_by b k)
-  unfolding term_by part_words report
-  number_promised k q i = rw q (promised Number i)
+  pub number_promised : {b : Bool} (k : ℕ) → b ≡ false → v ≡ has_room_for (0 ∷ 0 ∷ length word ∷ []) old → new ≡ laid (0 ∷ 0 ∷ length word ∷ []) old → Promised image word old v new (term_by b k)
+  unfolding term_by part_words report has_part_room part_written has_room_for laid
+  number_promised k q h i = rw q (promised Number h i)

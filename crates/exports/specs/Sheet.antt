@@ -7,7 +7,7 @@ use Rattle.laws.specs.Ranges.{overlay}
 use Rattle.rules.specs.Refusal.{Told, Fault, Placed, told}
 use Rattle.rules.specs.Compile.{Compiled}
 use Rattle.rules.specs.Formula.{Term, Number, Kind}
-use Rattle.written.specs.Shown.{exponents_of}
+use Rattle.table.specs.Shown.{exponents_of}
 
 -- a number as a word. The greatest word stands for every number over 32 bits, which only the length of an image, in 1, can be
 unfoldable pub capped : ℕ → ℕ

@@ -3,6 +3,7 @@
 // report's answer is three words, which tell where the part that it prints lies.
 #![tactic(auto)]
 
+mod buffer;
 mod parts;
 mod words;
 
@@ -15,24 +16,27 @@ ghost use Rattle.rules.specs.Report as prints;
 ghost use Rattle.exports.specs.Sheet.{sheet_of, compiled_words, kind_words, term_words, has_room, written};
 ghost use Rattle.exports.specs.Part.{term_by, part_words, has_part_room, part_written, pointed};
 
+use buffer::write;
 use call::call;
 use compile::compile;
 use lookup::{Exponent, combine, power};
-use parts::{kind_start, write_part};
+use parts::kind_start;
 use report::kind_part;
-use words::write;
+use words::{compiled_words, fault_words, kind_words, term_words};
 
 // A catalog image compiled into a lent table.
+#[tactic(auto, using(crate::proofs::Sheets::room_told))]
 pub fn kind_compile(image: &[u8], table: &mut [u32], out: &mut [u32]) -> bool
     ensures value { result ≡ has_room out.old }
     ensures out_after { out.new ≡ written (sheet_of compiled_words (compile_image image.now (length table.old))) out.old }
     ensures table_after { table.new ≡ table_after image.now table.old }
 {
     let answer = compile(image, table);
-    write(answer, out)
+    write(&answer.map_or_else(fault_words, compiled_words), out)
 }
 
 // Two kinds combined by the code of a token, 2 to 7.
+#[tactic(auto, using(crate::proofs::Sheets::room_told))]
 pub fn kind_combine(
     table: &[u32],
     rows: &[u32],
@@ -47,10 +51,11 @@ pub fn kind_combine(
     ensures twins_after { twins.new ≡ twins_after (lone.combine table.now rows.now twins.old code left right) twins.old }
 {
     let answer = combine(table, rows, twins, code, left, right);
-    write(answer, out)
+    write(&answer.map_or_else(fault_words, kind_words), out)
 }
 
 // A kind to the exponent num / den.
+#[tactic(auto, using(crate::proofs::Sheets::room_told))]
 pub fn kind_power(
     table: &[u32],
     twins: &mut [u16],
@@ -64,20 +69,22 @@ pub fn kind_power(
     ensures twins_after { twins.new ≡ twins_after (lone.power table.now twins.old base (lone.exact num den)) twins.old }
 {
     let answer = power(table, twins, base, Exponent::Exact(num, den));
-    write(answer, out)
+    write(&answer.map_or_else(fault_words, kind_words), out)
 }
 
 // A kind to an inexact exponent.
+#[tactic(auto, using(crate::proofs::Sheets::room_told))]
 pub fn kind_power_inexact(table: &[u32], twins: &mut [u16], base: u16, out: &mut [u32]) -> bool
     ensures value { result ≡ has_room out.old }
     ensures out_after { out.new ≡ written (sheet_of kind_words (lone.power table.now twins.old base lone.inexact)) out.old }
     ensures twins_after { twins.new ≡ twins_after (lone.power table.now twins.old base lone.inexact) twins.old }
 {
     let answer = power(table, twins, base, Exponent::Inexact);
-    write(answer, out)
+    write(&answer.map_or_else(fault_words, kind_words), out)
 }
 
 // A formula's tokens, 12 bytes each, run over a table and rows.
+#[tactic(auto, using(crate::proofs::Sheets::room_told))]
 pub fn kind_formula(
     table: &[u32],
     rows: &[u32],
@@ -90,7 +97,7 @@ pub fn kind_formula(
     ensures twins_after { twins.new ≡ twins_after (rule.call table.now rows.now twins.old bytes.now) twins.old }
 {
     let answer = call(table, rows, twins, bytes);
-    write(answer, out)
+    write(&answer.map_or_else(fault_words, term_words), out)
 }
 
 // Which part of what is lent the report prints: of the image for a kind, of the word for a number.
@@ -101,7 +108,7 @@ pub fn kind_report(image: &[u8], word: &[u8], kinded: bool, kind: u16, part: &mu
 {
     if kinded {
         let n = kind_part(image, kind).len();
-        return write_part(1, kind_start(kind, n), n, part);
+        return write(&[1, kind_start(kind, n), n], part);
     }
-    write_part(0, 0, word.len(), part)
+    write(&[0, 0, word.len()], part)
 }

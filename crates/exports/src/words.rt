@@ -1,14 +1,16 @@
 // The 32 words of an answer.
-ghost use Rattle.std.specs.Prelude.{◌≡◌, [], ◌∷◌, ◌+◌, ◌≤◌, ◌<◌, length};
-ghost use Rattle.std.proofs.Math.Seq.{paste};
+ghost use Rattle.std.specs.Prelude.{◌≡◌, [], ◌∷◌, map};
+ghost use Rattle.formula.specs.Shown.{term_of};
 ghost use Rattle.exports.specs.Sheet as S;
-ghost use Rattle.exports.specs.Shown.{value_word, plain_words, dimension_words, error_words, words_by};
+ghost use Rattle.exports.specs.Sheet.{padded};
+ghost use Rattle.exports.specs.Shown.{fault_words};
 
-use dimension::Dimensions;
-use error::{Answer, Error, Said, Verdict, returns_dimensions, say};
-use written::exponent_words;
+use error::{Fault, say};
+use formula::Term;
+use table::words_of;
 
 // A number as a word; the greatest word stands for every number over 32 bits.
+#[tactic(auto, using(laws::proofs::Cases::cases), unfolding(crate::specs::Sheet::capped))]
 fn capped(n: usize) -> u32
     ensures { result ≡ S.capped n }
 {
@@ -18,95 +20,57 @@ fn capped(n: usize) -> u32
     4294967295
 }
 
-fn value_word(said: Said, i: usize) -> u32
-    requires { i < 4 }
-    ensures { result ≡ value_word said i }
-{
-    let values = said.values;
-    capped(values[i])
-}
-
-// Puts the words w into t, from place `at` on.
-fn put(t: &mut [u32], at: usize, w: &[u32])
-    requires { at + length w.now ≤ length t.old }
-    ensures { t.new ≡ paste t.old at w.now (length w.now) }
-{
-    let n = w.len();
-    let mut i: usize = 0;
-    while i < n {
-        t[at + i] = w[i];
-        i += 1;
-    }
-}
-
 // The first three words, and zeros.
 fn head(what: u32, which: u32, place: u32) -> [u32; 32]
-    ensures { result ≡ S.padded (what ∷ which ∷ place ∷ []) }
+    ensures { result ≡ padded (what ∷ which ∷ place ∷ []) }
 {
-    let mut w = [0u32; 32];
-    w[0] = what;
-    w[1] = which;
-    w[2] = place;
-    w
+    let mut words = [0; 32];
+    words[0] = what;
+    words[1] = which;
+    words[2] = place;
+    words
 }
 
-// A refusal that returns values alone.
-fn plain_words(said: Said, place: usize) -> [u32; 32]
-    ensures { result ≡ plain_words said place }
+fn value_words(values: [usize; 4]) -> [u32; 4]
+    ensures { result ≡ map S.capped values }
 {
-    let mut w = head(2, said.number, capped(place));
-    w[3] = value_word(said, 0);
-    w[4] = value_word(said, 1);
-    w[5] = value_word(said, 2);
-    w[6] = value_word(said, 3);
-    w
+    values.map(capped)
 }
 
-// A refusal that returns dimensions and a value.
-fn dimension_words(said: Said, place: usize, d: Dimensions) -> [u32; 32]
-    ensures { result ≡ dimension_words said place d }
+// A refusal: its number and place, and then what it returns, the exponents of dimensions where there are any and four values.
+pub(crate) fn fault_words(fault: Fault) -> [u32; 32]
+    ensures { result ≡ fault_words fault }
 {
-    let mut w = head(2, said.number, capped(place));
-    w[27] = value_word(said, 0);
-    let exponents = exponent_words(d);
-    put(&mut w, 3, &exponents);
-    w
-}
-
-fn refusal_words(e: Error, place: usize, d: Dimensions) -> [u32; 32]
-    ensures { result ≡ error_words e place d }
-{
-    let said = say(e);
-    if returns_dimensions(e) {
-        return dimension_words(said, place, d);
+    let said = say(fault.error);
+    let values = value_words(said.values);
+    let mut words = head(2, said.number, capped(fault.place));
+    match said.dims {
+        None => words[3..7].copy_from_slice(&values),
+        Some(d) => {
+            words[3..27].copy_from_slice(&words_of(d));
+            words[27..31].copy_from_slice(&values);
+        }
     }
-    plain_words(said, place)
+    words
 }
 
-fn words_of(answer: Answer) -> [u32; 32]
-    ensures { result ≡ words_by answer }
+pub(crate) fn compiled_words(_done: ()) -> [u32; 32]
+    ensures { result ≡ padded (3 ∷ []) }
 {
-    let verdict = answer.verdict;
-    match verdict {
-        Verdict::Fine => head(3, 0, 0),
-        Verdict::Number => head(0, 0, 0),
-        Verdict::Kind(k) => head(1, k as u32, 0),
-        Verdict::Refused(e) => refusal_words(e, answer.place, answer.dims),
-    }
+    head(3, 0, 0)
 }
 
-// The words of an answer.
-const WORDS: usize = 32;
-
-// Writes an answer over the front of a lent buffer where that has room.
-pub(crate) fn write(answer: Answer, out: &mut [u32]) -> bool
-    ensures value { result ≡ S.has_room out.old }
-    ensures out_after { out.new ≡ S.written (words_by answer) out.old }
+pub(crate) fn kind_words(k: u16) -> [u32; 32]
+    ensures { result ≡ padded (S.kind_words k) }
 {
-    if out.len() < WORDS {
-        return false;
+    head(1, k as u32, 0)
+}
+
+pub(crate) fn term_words(term: Term) -> [u32; 32]
+    ensures { result ≡ padded (S.term_words (term_of term)) }
+{
+    match term {
+        Term::Number => head(0, 0, 0),
+        Term::Kind(k) => kind_words(k),
     }
-    let w = words_of(answer);
-    put(out, 0, &w);
-    true
 }

@@ -3,7 +3,8 @@ use Prim.Native.Nat.{ℕ, ◌<◌, ◌≤◌}
 use mathlib.Core.Path.{◌≡◌, refl, sym, ◌∙◌}
 use mathlib.Core.Bool.{Bool, true, false, not, ◌&&◌, and-false, true≢false}
 use mathlib.Core.List.{List, [], ◌∷◌}
-use mathlib.Core.Option.{Option, some, none}
+use Rattle.std.specs.declared.option.Option.{Option}
+use Rattle.std.specs.declared.option.Option.TheVariants.{None, Some}
 use native.Mathlib.Omega.{arith}
 use borrow.Author.Tests.{eqb-false, ne_eqb, ltb-true, ltb-false, not-true, not-false}
 use lib.Dec.{eqb, ltb}
@@ -35,14 +36,14 @@ module _ (t : List ℕ) (x : Graded) (k : ℕ) (e : fits (kinds_of t) x k ≡ tr
   abbrev K : Kinds
   K = kinds_of t
 
-  alone : first (fits_beside K x k) K.count ≡ none → candidates K x ≡ k ∷ []
+  alone : first (fits_beside K x k) K.count ≡ None → candidates K x ≡ k ∷ []
   unfolding fits_beside
   alone n = picked_one (fits K x) k K.count (fits_in_law t x k e) e other
     where
       other : (j : ℕ) → j < K.count → (j ≡ k → ⊥) → fits K x j ≡ false
       other j h d = let m : (not (eqb j k) && fits K x j) ≡ false = first_misses (fits_beside K x k) K.count j n h in rw (ne_eqb j k d) at m
 
-  several_kinds : {j : ℕ} → first (fits_beside K x k) K.count ≡ some j → 2 ≤ length (candidates K x)
+  several_kinds : {j : ℕ} → first (fits_beside K x k) K.count ≡ Some j → 2 ≤ length (candidates K x)
   unfolding fits_beside
   several_kinds {j} f = go (first_passes (fits_beside K x k) K.count f)
     where
@@ -68,8 +69,8 @@ module _ (t : List ℕ) (x : Graded) (k : ℕ) {v : Beside} (q : v ≡ beside_of
   alone_told p = go (fits (kinds_of t) x k) refl (first (fits_beside (kinds_of t) x k) (kinds_of t).count) refl
     where
       go : (b : Bool) → fits (kinds_of t) x k ≡ b → (o : Option ℕ) → first (fits_beside (kinds_of t) x k) (kinds_of t).count ≡ o → candidates (kinds_of t) x ≡ k ∷ []
-      go true e none f = alone t x k e f
-      go true e (some j) f = let z : Alone ≡ Others = sym p ∙ q ∙ rw (e, f) in cc
+      go true e None f = alone t x k e f
+      go true e (Some j) f = let z : Alone ≡ Others = sym p ∙ q ∙ rw (e, f) in cc
       go false e o f = let z : Alone ≡ Unfit = sym p ∙ q ∙ rw e in cc
 
   pub others_told : v ≡ Others → 2 ≤ length (candidates (kinds_of t) x)
@@ -77,8 +78,8 @@ module _ (t : List ℕ) (x : Graded) (k : ℕ) {v : Beside} (q : v ≡ beside_of
   others_told p = go (fits (kinds_of t) x k) refl (first (fits_beside (kinds_of t) x k) (kinds_of t).count) refl
     where
       go : (b : Bool) → fits (kinds_of t) x k ≡ b → (o : Option ℕ) → first (fits_beside (kinds_of t) x k) (kinds_of t).count ≡ o → 2 ≤ length (candidates (kinds_of t) x)
-      go true e (some j) f = several_kinds t x k e f
-      go true e none f =
+      go true e (Some j) f = several_kinds t x k e f
+      go true e None f =
           let y : Others ≡ Alone = sym p ∙ q ∙ rw (e, f) in
           let z : true ≡ false = cc in
           absurd (true≢false z)

@@ -24,9 +24,9 @@ module _ (t : List ℕ) (d : Dimensions) (g : ℕ) (old : List ℕ) {new : List 
   room_all w h p q e =
       rw (le-ltb (length old) 240 h) (e ∙ ap₂ (λ (x : Dimensions) (m : ℕ). listed (picked (fits (kinds_of t) (at x g)) m) old) p q)
 
--- no more than 240 kinds are ever read
-pub count_fits : (t : List ℕ) {n m : ℕ} → n ≡ (kinds_of t).count → 240 ≤ m → n ≤ m
-unfolding kinds_of
-count_fits t e h = omega (arith, e)
+pub ruleset rooms = (room_none, room_all)
 
-pub ruleset rooms = (room_none, room_all, count_fits)
+-- no more than 240 kinds are ever read
+pub few_kinds : (t : List ℕ) → (kinds_of t).count ≤ 240
+unfolding kinds_of
+few_kinds t = omega arith

@@ -3,17 +3,17 @@ use Prim.Native.Nat.{ℕ, zero, suc, ◌+◌, ◌-◌, ◌<◌, ◌≤◌}
 use mathlib.Core.Path.{◌≡◌, refl, sym, ◌∙◌, ap}
 use mathlib.Core.Bool.{Bool, true, false, ◌&&◌, and-false, true≢false}
 use mathlib.Core.List.{List, [], ◌∷◌}
-use mathlib.Core.Option.{none}
-use native.Mathlib.Nat.{le_antisymm}
+use Rattle.std.specs.declared.option.Option.{Option}
+use Rattle.std.specs.declared.option.Option.TheVariants.{None, Some}
 use native.Mathlib.Omega.{arith}
-use borrow.Author.Tests.{lt-ltb, le-ltb}
+use borrow.Author.Tests.{lt-ltb, le-ltb, ltb-true, ltb-false}
 use lib.Dec.{ltb}
 use lib.ListN.{length, length-append}
 use Rattle.laws.specs.Ranges.{first_from, picked}
 use Rattle.laws.proofs.Picked.{picked_yes}
 use Rattle.rules.specs.Kinds.{Kinds, Graded, fits, candidates}
 use Rattle.rules.specs.Arithmetic as rule
-use Rattle.table.proofs.Spans.{span_misses}
+use Rattle.table.proofs.Spans.{span_misses, span_found}
 use Rattle.fitting.specs.Shown.{fit_of, fits_past, twins_from}
 use Rattle.fitting.specs.declared.sought.Fit.{Fit}
 use Rattle.fitting.specs.declared.sought.Fit.TheVariants.{Only, Second, Nothing}
@@ -70,30 +70,35 @@ pub twins_counted : (K : Kinds) (x : Graded) {v : Fit} {m : ℕ} → v ≡ Secon
 unfolding twins_from fits_past
 twins_counted K x {v} {m} p e = sym (counted (fits K x) m K.count (sym e ∙ p)).1
 
--- ---- the loop: c are counted up to kind i, which fits, and the next that fits is j; n is the count
+-- ---- the loop: c are counted up to kind i, and u is the first that fits from there on; n is the count
 module _ (K : Kinds) (x : Graded) (k : ℕ) where
   none_past : (n : ℕ) → n ≤ k + 1 → length (picked (fits_past K x k) n) ≡ 0
   unfolding fits_past
   none_past n h = rw (picked_none (λ j. ltb k j && fits K x j) n (λ j l. rw (le-ltb k j (omega arith))))
 
-  pub past_all : {n : ℕ} → n ≡ K.count → n ≤ k → 2 ≡ twins_from K x k
-  unfolding twins_from
-  past_all {n} e h = omega (arith, none_past K.count (omega (arith, e)))
-
-  skipped : (a j : ℕ) → a ≤ j → first_from (fits K x) a (j - a) ≡ none → length (picked (fits_past K x k) j) ≡ length (picked (fits_past K x k) a)
+  skipped : (a j : ℕ) → a ≤ j → first_from (fits K x) a (j - a) ≡ None → length (picked (fits_past K x k) j) ≡ length (picked (fits_past K x k) a)
   unfolding fits_past
   skipped a j l f = ap length (picked_skip (λ m. ltb k m && fits K x m) a j l (λ m u v. rw (span_misses (fits K x) a (j - a) m f u (omega arith), and-false (ltb k m))))
 
-  pub past_first : (j : ℕ) {v : ℕ} → v ≡ 2 → k + 1 ≤ j → first_from (fits K x) (k + 1) (j - (k + 1)) ≡ none → v ≡ 2 + length (picked (fits_past K x k) j)
-  past_first j w l f = omega (arith, w, skipped (k + 1) j l f, none_past (k + 1) (omega arith))
+  pub past_first : 2 ≡ 2 + length (picked (fits_past K x k) (k + 1))
+  past_first = omega (arith, none_past (k + 1) (omega arith))
 
   one_past : (i : ℕ) → k < i → fits K x i ≡ true → length (picked (fits_past K x k) (i + 1)) ≡ length (picked (fits_past K x k) i) + 1
   unfolding fits_past
   one_past i h e = rw (picked_yes (λ m. ltb k m && fits K x m) i {b = true} (rw (lt-ltb k i h, e)) refl) (length-append (picked (λ m. ltb k m && fits K x m) i) (i ∷ []))
 
-  pub past_next : (i c j : ℕ) {v : ℕ} → v ≡ c + 1 → c ≡ 2 + length (picked (fits_past K x k) i) → k < i → fits K x i ≡ true → i + 1 ≤ j → first_from (fits K x) (i + 1) (j - (i + 1)) ≡ none → v ≡ 2 + length (picked (fits_past K x k) j)
-  past_next i c j w p h e l f = omega (arith, w, p, skipped (i + 1) j l f, one_past i h e)
+  pub past_next : (i n c : ℕ) {u : Option ℕ} {j v : ℕ} → c ≡ 2 + length (picked (fits_past K x k) i) → k < i → u ≡ first_from (fits K x) i (n - i) → u ≡ Some j → v ≡ c + 1 → v ≡ 2 + length (picked (fits_past K x k) (j + 1))
+  past_next i n c {u} {j} p h e q w =
+      let r = span_found (fits K x) i (n - i) (sym e ∙ q) in
+      omega (arith, w, p, skipped i j r.0 r.3, one_past j (omega (arith, r.0)) r.2)
 
-  pub past_end : (i c : ℕ) {n : ℕ} → n ≡ K.count → c ≡ 2 + length (picked (fits_past K x k) i) → i ≤ n → n ≤ i → c ≡ twins_from K x k
+  pub past_end : (i c : ℕ) {n : ℕ} {u : Option ℕ} → n ≡ K.count → c ≡ 2 + length (picked (fits_past K x k) i) → (n < i → i ≤ k + 1) → u ≡ first_from (fits K x) i (n - i) → u ≡ None → c ≡ twins_from K x k
   unfolding twins_from
-  past_end i c {n} e p l m = p ∙ ap (λ (j : ℕ). 2 + length (picked (fits_past K x k) j)) (le_antisymm l m ∙ e)
+  past_end i c {n} {u} e p m f q = go (ltb n i) refl
+    where
+      go : (b : Bool) → ltb n i ≡ b → c ≡ 2 + length (picked (fits_past K x k) K.count)
+      go true t =
+          let h = ltb-true n i t in
+          let l = m h in
+          omega (arith, p, none_past i l, none_past K.count (omega (arith, e)))
+      go false t = let h = ltb-false n i t in omega (arith, p, skipped i n h (sym f ∙ q), ap (λ (j : ℕ). length (picked (fits_past K x k) j)) e)

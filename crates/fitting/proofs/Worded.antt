@@ -4,7 +4,7 @@ use Prim.Native.Nat.{ℕ, ◌+◌, ◌*◌, ◌/◌, ◌%◌, ◌<◌, ◌≤◌
 use mathlib.Core.Path.{◌≡◌, refl, sym, ◌∙◌, ap}
 use mathlib.Core.Bool.{Bool, true, false, cond, not, ◌&&◌, and-false}
 use mathlib.Core.List.{List}
-use mathlib.Core.Option.{some, none}
+use Rattle.std.specs.declared.option.Option.TheVariants.{None, Some}
 use native.Mathlib.Omega.{arith}
 use borrow.Author.Tests.{lt-ltb, le-ltb, ltb-true, ltb-false, le-leb, lt-leb, ne_eqb, eqb-true, eqb-false, not-true, not-false}
 use lib.Dec.{eqb, ltb, leb}
@@ -80,7 +80,7 @@ and_true : (b : Bool) → (b && true) ≡ b
 and_true true = refl
 and_true false = refl
 
-in_turn : (s f e n : Bool) (d x : Dimensions) → s ≡ D.equal d x → (s && ((f && e) && n)) ≡ (n && (e && found (cond f (some d) none) (λ y. D.equal y x) false))
+in_turn : (s f e n : Bool) (d x : Dimensions) → s ≡ D.equal d x → (s && ((f && e) && n)) ≡ (n && (e && found (cond f (Some d) None) (λ y. D.equal y x) false))
 in_turn s true true true d x p = and_true s ∙ p
 in_turn s true true false d x p = and-false s
 in_turn s true false true d x p = and-false s

@@ -4,7 +4,7 @@ use Rattle.laws.specs.Options.{is_some, found}
 use Rattle.laws.specs.Ranges.{first, picked, overlay}
 use Rattle.dimension.specs.declared.dimensions.Dimensions.{Dimensions}
 use Rattle.rules.specs.Kinds.{Kinds, Graded, fits}
-use Rattle.rules.specs.Table.{word, kind_place}
+use Rattle.rules.specs.Table.{word}
 use Rattle.fitting.specs.declared.beside.Beside.{Beside}
 use Rattle.fitting.specs.declared.beside.Beside.TheVariants.{Alone, Others, Unfit}
 use Rattle.fitting.specs.declared.sought.Fit.{Fit}
@@ -17,10 +17,6 @@ at d g = record { dims = d; grade = g }
 -- ---- the words of a kind that begin at p, compared with those of dimensions
 unfoldable pub same_word : List ℕ → ℕ → List ℕ → ℕ → Bool
 same_word t p w i = eqb (word t (p + i)) (word w i)
-
--- words a, a + 2 and a + 4 of kind k are those of dimensions
-unfoldable pub lead_same : List ℕ → List ℕ → ℕ → ℕ → Bool
-lead_same t w a k = same_word t (kind_place k) w a && same_word t (kind_place k) w (a + 2) && same_word t (kind_place k) w (a + 4)
 
 -- the numerator of base b, in the words of dimensions, is not zero
 unfoldable pub is_there : List ℕ → ℕ → Bool

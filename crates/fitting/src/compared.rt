@@ -22,16 +22,15 @@ fn same_pair(t: &[u32], p: usize, w: &[u32], b: usize) -> bool
 }
 
 // Whether the exponents from place p on are those of w. It ends at the first pair that differs.
+#[tactic(auto, using(table::proofs::ExponentsInWords::sames))]
 fn same_from(t: &[u32], p: usize, w: &[u32]) -> bool
     requires { p < 4294967296 }
     ensures { result ≡ D.equal (T.dims_from t.now p) (T.dims_from w.now 0) }
 {
-    let mut b: usize = 0;
-    while b < 12 {
+    for b in 0..12 {
         if !same_pair(t, p, w, b) {
             return false;
         }
-        b += 1;
     }
     true
 }
@@ -43,10 +42,8 @@ fn same_words(t: &[u32], p: usize, w: &[u32]) -> bool
     ensures { result ≡ all (same_word t.now p w.now) 24 }
 {
     let mut same = true;
-    let mut i: usize = 0;
-    while i < 24 {
+    for i in 0..24 {
         same = same & (t[p + i] == w[i]);
-        i += 1;
     }
     same
 }
@@ -63,6 +60,7 @@ pub(crate) fn same_exponents(t: &[u32], k: u16, w: &[u32]) -> bool
 }
 
 // Whether word i of kind k is that of w.
+#[tactic(auto, unfolding(crate::specs::Shown::same_word))]
 pub(crate) fn same_word(t: &[u32], k: u16, w: &[u32], i: usize) -> bool
     requires { i < 24 }
     ensures { result ≡ same_word t.now (T.kind_place k) w.now i }
@@ -71,6 +69,7 @@ pub(crate) fn same_word(t: &[u32], k: u16, w: &[u32], i: usize) -> bool
 }
 
 // Whether the numerator of base b is not zero.
+#[tactic(auto, unfolding(crate::specs::Shown::is_there))]
 fn is_there(w: &[u32], b: usize) -> bool
     requires { b < 12 }
     ensures { result ≡ is_there w.now b }
@@ -79,15 +78,14 @@ fn is_there(w: &[u32], b: usize) -> bool
 }
 
 // The place of the first numerator that is not zero, which tells most kinds apart; 0 where all are.
+#[tactic(auto, using(laws::proofs::First::scan), unfolding(crate::specs::Shown::pivot_of))]
 pub(crate) fn pivot(w: &[u32]) -> usize
     ensures { result ≡ pivot_of w.now }
 {
-    let mut b: usize = 0;
-    while b < 12 {
+    for b in 0..12 {
         if is_there(w, b) {
             return 2 * b;
         }
-        b += 1;
     }
     0
 }

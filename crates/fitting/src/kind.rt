@@ -11,6 +11,7 @@ use table::{
 };
 
 // Whether kind k has this grade and the dimensions whose words are w. The grade comes first, then the words, at once where all are there.
+#[tactic(auto, using(crate::proofs::Carried::carried))]
 fn carries_words(t: &[u32], k: u16, w: &[u32], g: u32) -> bool
     ensures { result ≡ K.carries (kinds_of t.now) (at (dims_from w.now 0) g) k }
 {
@@ -27,8 +28,7 @@ fn carries_words(t: &[u32], k: u16, w: &[u32], g: u32) -> bool
 pub fn carries(t: &[u32], d: Dimensions, g: u32, k: u16) -> bool
     ensures { result ≡ K.carries (kinds_of t.now) (at d g) k }
 {
-    let exponents = words_of(d);
-    let w = exponents.words;
+    let w = words_of(d);
     carries_words(t, k, &w, g)
 }
 

@@ -11,30 +11,29 @@ use dimension::Dimensions;
 use table::{kind_count, words_of};
 
 // Lists those of the first n kinds that fit from the front of the lent list.
+#[tactic(auto, using(laws::proofs::Picked::picks))]
 fn list(t: &[u32], w: &[u32], g: u32, n: u16, twins: &mut [u16])
     requires { n ≤ length twins.old }
     ensures { twins.new ≡ listed (picked (K.fits (kinds_of t.now) (at (dims_from w.now 0) g)) n) twins.old }
 {
     let first = pivot(w);
     let mut count: usize = 0;
-    let mut k: u16 = 0;
-    while k < n {
+    for k in 0..n {
         if fits(t, k, w, g, first) {
             twins[count] = k;
             count += 1;
         }
-        k += 1;
     }
 }
 
 // The kinds that fit, ascending, from the front of the lent list; a list under 240 entries stays as it was.
+#[tactic(auto, using(crate::proofs::Room::few_kinds))]
 pub fn list_candidates(t: &[u32], d: Dimensions, g: u32, twins: &mut [u16])
     ensures { twins.new ≡ room_listed (K.candidates (kinds_of t.now) (at d g)) twins.old }
 {
     if twins.len() < 240 {
         return;
     }
-    let exponents = words_of(d);
-    let w = exponents.words;
+    let w = words_of(d);
     list(t, &w, g, kind_count(t), twins);
 }

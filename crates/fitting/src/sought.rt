@@ -1,16 +1,15 @@
 // The only kind that fits dimensions at a grade, sought until a second does; and from there on how many do.
-ghost use Rattle.std.specs.Prelude.{◌≡◌, true, ◌&&◌, eqb, ◌+◌, ◌-◌, ◌*◌, ◌<◌, ◌≤◌, length};
-ghost use Rattle.std.proofs.Math.Option.{none};
+ghost use Rattle.std.specs.Prelude.{◌≡◌, ◌&&◌, eqb, ◌+◌, ◌-◌, ◌*◌, ◌<◌, ◌≤◌, length};
 ghost use Rattle.laws.specs.Ranges.{first_from};
 ghost use Rattle.rules.specs.Kinds as K;
 ghost use Rattle.rules.specs.Table.{word, kinds_of, kind_place, dims_from};
-ghost use Rattle.fitting.specs.Shown.{at, lead_same, fit_of, twins_from};
+ghost use Rattle.fitting.specs.Shown.{at, fit_of, twins_from};
 
 use crate::compared::pivot;
 use crate::kind::fits_whole;
 use table::{GRADE, KIND, KINDS, kind_count};
 
-// The only kind that fits, the second of several, at which the search ended, or none.
+// The only kind that fits, the second of several, at which the search ended, or none: three cases, more than Option or Result has.
 #[derive(Clone, Copy)]
 pub enum Fit {
     Only(u16),
@@ -29,30 +28,8 @@ fn are_same(t: &[u32], k: usize, a: usize, x: u32, y: u32, z: u32) -> bool
     (t[p] == x) & (t[p + 2] == y) & (t[p + 4] == z)
 }
 
-// The first kind from `from` on, of the first n, whose numerators at a and of the two bases behind it are those of w, or n.
-fn next_same(t: &[u32], w: &[u32], from: usize, n: usize, a: usize) -> usize
-    requires n_in_bounds { kind_place n ≤ length t.now }
-    requires in_bounds { 24 ≤ length w.now }
-    requires a_bound { a < 20 }
-    requires n_bound { n ≤ 240 }
-    requires from_le_n { from ≤ n }
-    ensures lower_bound { (from ≤ result) × (result ≤ n) }
-    ensures from_value { first_from (lead_same t.now w.now a) from (result - from) ≡ none }
-{
-    let x = w[a];
-    let y = w[a + 2];
-    let z = w[a + 4];
-    let mut k = from;
-    while k < n {
-        if are_same(t, k, a, x, y, z) {
-            return k;
-        }
-        k += 1;
-    }
-    k
-}
-
 // Whether kind k, whose words are all there, fits. The grade is asked first: it tells many apart whose first exponents are the same.
+#[tactic(auto, using(crate::proofs::Worded::grade_differs))]
 fn fits_within(t: &[u32], k: usize, w: &[u32], g: u32) -> bool
     requires k_bound { k < 240 }
     requires k_in_bounds { kind_place (k + 1) ≤ length t.now }
@@ -75,52 +52,49 @@ fn lead(w: &[u32]) -> usize
     p
 }
 
-// The first kind from `from` on, of the first n, that fits, or n. The words of all n are there.
-fn next_within(t: &[u32], w: &[u32], g: u32, from: usize, n: usize, a: usize) -> usize
+// The first kind from `from` on, of the first n, that fits. The words of all n are there, and most kinds differ in one of three numerators, which are
+// those of w at a and of the two bases behind it.
+#[tactic(auto, using(table::proofs::Spans::searches, crate::proofs::Searched::apart))]
+fn next_within(t: &[u32], w: &[u32], g: u32, from: usize, n: usize, a: usize) -> Option<usize>
     requires n_in_bounds { kind_place n ≤ length t.now }
     requires in_bounds { 24 ≤ length w.now }
     requires a_bound { a < 20 }
     requires n_bound { n ≤ 240 }
-    requires from_le_n { from ≤ n }
-    ensures lower_bound { (from ≤ result) × (result ≤ n) }
-    ensures from_value { first_from (K.fits (kinds_of t.now) (at (dims_from w.now 0) g)) from (result - from) ≡ none }
-    ensures result_value { result < n → K.fits (kinds_of t.now) (at (dims_from w.now 0) g) result ≡ true }
+    ensures { result ≡ first_from (K.fits (kinds_of t.now) (at (dims_from w.now 0) g)) from (n - from) }
 {
-    let mut k = next_same(t, w, from, n, a);
-    while k < n {
+    let x = w[a];
+    let y = w[a + 2];
+    let z = w[a + 4];
+    for k in from..n {
+        if !are_same(t, k, a, x, y, z) {
+            continue;
+        }
         if fits_within(t, k, w, g) {
-            return k;
+            return Some(k);
         }
-        k = next_same(t, w, k + 1, n, a);
     }
-    k
+    None
 }
 
-// The same where some of their words may be missing.
-fn next_read(t: &[u32], w: &[u32], g: u32, from: usize, n: usize) -> usize
-    requires n_bound { n ≤ 240 }
-    requires from_le_n { from ≤ n }
-    ensures lower_bound { (from ≤ result) × (result ≤ n) }
-    ensures from_value { first_from (K.fits (kinds_of t.now) (at (dims_from w.now 0) g)) from (result - from) ≡ none }
-    ensures result_value { result < n → K.fits (kinds_of t.now) (at (dims_from w.now 0) g) result ≡ true }
+// The same where some of their words may be missing. That n is at most 240 is what keeps a kind's index within 16 bits; a type for it would be made and
+// read at each of the three searches alone.
+#[tactic(auto, using(table::proofs::Spans::searches))]
+fn next_read(t: &[u32], w: &[u32], g: u32, from: usize, n: usize) -> Option<usize>
+    requires { n ≤ 240 }
+    ensures { result ≡ first_from (K.fits (kinds_of t.now) (at (dims_from w.now 0) g)) from (n - from) }
 {
-    let mut k = from;
-    while k < n {
+    for k in from..n {
         if fits_whole(t, k as u16, w, g) {
-            return k;
+            return Some(k);
         }
-        k += 1;
     }
-    k
+    None
 }
 
-// The first kind from `from` on, of the first n, that fits, or n.
-fn next_fit(t: &[u32], w: &[u32], g: u32, from: usize, n: usize) -> usize
-    requires n_bound { n ≤ 240 }
-    requires from_le_n { from ≤ n }
-    ensures lower_bound { (from ≤ result) × (result ≤ n) }
-    ensures from_value { first_from (K.fits (kinds_of t.now) (at (dims_from w.now 0) g)) from (result - from) ≡ none }
-    ensures result_value { result < n → K.fits (kinds_of t.now) (at (dims_from w.now 0) g) result ≡ true }
+// The first kind from `from` on, of the first n, that fits.
+fn next_fit(t: &[u32], w: &[u32], g: u32, from: usize, n: usize) -> Option<usize>
+    requires { n ≤ 240 }
+    ensures { result ≡ first_from (K.fits (kinds_of t.now) (at (dims_from w.now 0) g)) from (n - from) }
 {
     if (w.len() < 24) | (t.len() < KINDS + KIND * n) {
         return next_read(t, w, g, from, n);
@@ -129,35 +103,32 @@ fn next_fit(t: &[u32], w: &[u32], g: u32, from: usize, n: usize) -> usize
 }
 
 // The only kind that fits, or the second of several, or none.
+#[tactic(auto, using(crate::proofs::Room::few_kinds, table::proofs::Spans::span_in, crate::proofs::Searched::found_none, crate::proofs::Searched::found_only))]
 pub fn only_fit(t: &[u32], w: &[u32], g: u32) -> Fit
     ensures { result ≡ fit_of (K.candidates (kinds_of t.now) (at (dims_from w.now 0) g)) }
 {
     let n = kind_count(t) as usize;
-    let i = next_fit(t, w, g, 0, n);
-    if n <= i {
+    let Some(i) = next_fit(t, w, g, 0, n) else {
         return Fit::Nothing;
+    };
+    match next_fit(t, w, g, i + 1, n) {
+        Some(j) => Fit::Second(j as u16),
+        None => Fit::Only(i as u16),
     }
-    let j = next_fit(t, w, g, i + 1, n);
-    if j < n {
-        return Fit::Second(j as u16);
-    }
-    Fit::Only(i as u16)
 }
 
-// How many kinds fit, where k is the second of them: the search goes on past it.
+// How many kinds fit, where k is the second of them: the search goes on past it. Each search begins behind what the last one found, so that the loop
+// goes by what is found and no range is there for a `for`.
+#[tactic(auto, using(crate::proofs::Room::few_kinds, table::proofs::Spans::span_in, crate::proofs::Twins::past_first, crate::proofs::Twins::past_end))]
 pub fn twins_from(t: &[u32], w: &[u32], g: u32, k: u16) -> u16
     ensures { result ≡ twins_from (kinds_of t.now) (at (dims_from w.now 0) g) k }
 {
     let n = kind_count(t) as usize;
-    let from = k as usize + 1;
-    if n < from {
-        return 2;
-    }
     let mut count: u16 = 2;
-    let mut j = next_fit(t, w, g, from, n);
-    while j < n {
+    let mut from = k as usize + 1;
+    while let Some(j) = next_fit(t, w, g, from, n) {
         count += 1;
-        j = next_fit(t, w, g, j + 1, n);
+        from = j + 1;
     }
     count
 }

@@ -1,33 +1,30 @@
 -- What a step tells once it is looked at, how the run ends, and what a formula's shape makes of it. Assumes nothing.
-use Prim.Native.Nat.{ℕ, zero, suc, ◌/◌, ◌<◌}
-use mathlib.Core.Path.{◌≡◌, refl}
-use mathlib.Core.Bool.{true, false, true≢false}
+use Prim.Native.Nat.{ℕ, zero, suc, ◌-◌, ◌/◌, ◌<◌, ◌≤◌}
+use mathlib.Core.Path.{◌≡◌, refl, sym, ap}
 use mathlib.Core.List.{List, [], ◌∷◌}
 use lib.ListN.{length, get_or}
-use Rattle.laws.specs.Out.{given}
-use Rattle.dimension.specs.Dimension as D
+use Rattle.std.specs.declared.option.Option.{Option}
+use Rattle.std.specs.declared.option.Option.TheVariants.{None, Some}
+use Rattle.std.specs.declared.result.Result.{Result}
+use Rattle.std.specs.declared.result.Result.TheVariants.{Ok, Err}
 use Rattle.rules.specs.Kinds.{Kinds, Rows}
 use Rattle.rules.specs.Refusal as why
 use Rattle.rules.specs.Formula as rule
 use Rattle.rules.specs.Token.{token_at, tokens_in}
 use Rattle.rules.specs.Call.{ending, formula_in}
-use Rattle.tokens.specs.Shown.{coded, remaining, shaped, malformed_in}
+use Rattle.tokens.specs.Shown.{coded, remaining, malformed_in}
 use Rattle.tokens.specs.declared.token.Token.{Token}
-use Rattle.tokens.specs.declared.shape.Shape.{Shape}
-use Rattle.tokens.specs.declared.shape.Shape.TheVariants.{Fine, Bad}
 use Rattle.tokens.proofs.Turns.{halt, misplaced}
 use Rattle.tokens.proofs.Placed.{fine_formula, bad_formula}
-use Rattle.error.specs.Shown.{answer, error_of, besides}
-use Rattle.error.specs.declared.answer.Answer.{Answer}
-use Rattle.error.specs.declared.answer.Verdict.TheVariants as verdict
+use Rattle.error.specs.Shown.{error_of, fault}
 use Rattle.error.specs.declared.cause.Error.{Error}
 use Rattle.error.specs.declared.cause.Error.TheVariants as cause
-use Rattle.formula.specs.Shown.{termed, term_of, stack_of, on, stop, shown_step, Stepped, step_by}
+use Rattle.error.specs.declared.fault.Fault.{Fault}
+use Rattle.formula.specs.Shown.{termed, term_as, term_of, stack_of, next_by, shown_step, Stepped}
 use Rattle.formula.specs.declared.terms.Term.{Term}
 use Rattle.formula.specs.declared.terms.Term.TheVariants.{Number, Kind}
-use Rattle.formula.specs.declared.stack.Next.{Next}
-use Rattle.formula.specs.declared.stack.Go.TheVariants.{Put, Stop}
-use Rattle.formula.proofs.Held.{step_coded}
+use Rattle.formula.specs.declared.stack.Put.{Put}
+use Rattle.formula.proofs.Held.{steps, step_coded}
 
 abbrev Steps : Type 0
 Steps = rule.Step why.Refusal rule.Term
@@ -35,66 +32,61 @@ Steps = rule.Step why.Refusal rule.Term
 abbrev Ending : Type 0
 Ending = rule.Ended why.Refusal rule.Term
 
-on_back : (S : Steps) (p : ℕ) {s : List rule.Term} → on s ≡ shown_step p S → S ≡ rule.on s
+on_back : (S : Steps) (p : ℕ) {s : List rule.Term} → Ok s ≡ shown_step p S → S ≡ rule.on s
 on_back (rule.on s') p e = cc
 on_back (rule.stop x) p e = cc
 on_back rule.bad p e = cc
 
--- the walk that the loop has still before it comes to v
-module _ (K : Kinds) (R : Rows) (s : List ℕ) (k : ℕ) (held : List rule.Term) (a : List Term) {t : Token} {r : Next} (q : t ≡ coded (token_at s k)) (h : Stepped a k (step_by K R t held) r) where
-  stepped : Stepped a k (rule.step (rule.terms K R) (token_at s k) held) r
-  stepped = let z = rw q at h in rw (step_coded K R (token_at s k) held) at z
+-- over the n terms that the array a holds, the code's step of token k, which is t, came to r
+module _ (K : Kinds) (R : Rows) (s : List ℕ) (k n : ℕ) (a : List Term) {i j : ℕ} {t : Token} {r : Result Put Error} (e : r ≡ next_by K R t n k (get_or a i Number) (get_or a j Number)) (f : i ≡ n - 2) (g : j ≡ n - 1) (q : t ≡ coded (token_at s k)) (l : n ≤ 32) where
+  stepped : Stepped a k (rule.step (rule.terms K R) (token_at s k) (stack_of a n)) r
+  stepped =
+      let z = steps K R a k n t l (ap (λ m. get_or a m Number) f) (ap (λ m. get_or a m Number) g) e in
+      let w = rw q at z in
+      rw (step_coded K R (token_at s k) (stack_of a n)) at w
 
-  pub goes_on : {at : ℕ} {x : Term} → r.go ≡ Put at x → rule.step (rule.terms K R) (token_at s k) held ≡ rule.on (term_of x ∷ stack_of a at)
+  pub goes_on : {x : Put} → r ≡ Ok x → rule.step (rule.terms K R) (token_at s k) (stack_of a n) ≡ rule.on (term_of x.term ∷ stack_of a x.at)
   goes_on p = on_back _ _ (rw p at stepped.went)
 
-  pub goes_under : {at : ℕ} {x : Term} → r.go ≡ Put at x → at < 32
+  pub goes_under : {x : Put} → r ≡ Ok x → x.at < 32
   goes_under p = rw p at stepped.room
 
-  module _ {v : Ending} {n : ℕ} (inv : rule.walk (rule.terms K R) (remaining s k) k held ≡ v) (count : n ≡ length s / 12) (more : k < n) where
-    pub stops : {e : Error} → r.go ≡ Stop e → answer (verdict.Refused e) k r.dims ≡ termed (ending v)
-    unfolding termed why.told
-    stops {e} p = go (rule.step (rule.terms K R) (token_at s k) held) refl (rw p at stepped.went)
+  -- the walk that the loop has still before it comes to v
+  module _ {v : Ending} {m : ℕ} (inv : rule.walk (rule.terms K R) (remaining s k) k (stack_of a n) ≡ v) (count : m ≡ length s / 12) (more : k < m) where
+    pub stops : {e : Error} {y : Fault} → r ≡ Err e → y ≡ fault k e → Err y ≡ termed (ending v)
+    unfolding termed
+    stops {e} {y} p h = go (rule.step (rule.terms K R) (token_at s k) (stack_of a n)) refl (rw p at stepped.went)
       where
-        go : (S : Steps) → rule.step (rule.terms K R) (token_at s k) held ≡ S → stop e r.dims ≡ shown_step k S → answer (verdict.Refused e) k r.dims ≡ termed (ending v)
-        go (rule.on s') f g = let z : true ≡ false = cc in absurd (true≢false z)
-        go (rule.stop x) f g =
-            let i : e ≡ error_of x = cc in
-            let j : r.dims ≡ besides x = cc in
-            rw (i, j, ← halt (rule.terms K R) s k held inv count more f)
-        go rule.bad f g =
-            let i : e ≡ cause.Malformed k = cc in
-            let j : r.dims ≡ D.one = cc in
-            rw (i, j, ← misplaced (rule.terms K R) s k held inv count more f)
+        go : (S : Steps) → rule.step (rule.terms K R) (token_at s k) (stack_of a n) ≡ S → Err e ≡ shown_step k S → Err y ≡ termed (ending v)
+        go (rule.on s') b w = cc
+        go (rule.stop x) b w = let i : e ≡ error_of x = cc in rw (h, i, ← halt (rule.terms K R) s k (stack_of a n) inv count more b)
+        go rule.bad b w = let i : e ≡ cause.Malformed k = cc in rw (h, i, ← misplaced (rule.terms K R) s k (stack_of a n) inv count more b)
 
 -- ---- the end
-module _ {x : Term} {v : Answer} where
-  pub number_told : x ≡ Number → v ≡ answer verdict.Number 0 D.one → v ≡ termed (given (term_of x))
-  unfolding termed
-  number_told p h = rw p h
+term_back : (x : Term) → term_as (term_of x) ≡ x
+term_back Number = refl
+term_back (Kind k) = refl
 
-  pub kind_told : {k : ℕ} → x ≡ Kind k → v ≡ answer (verdict.Kind k) 0 D.one → v ≡ termed (given (term_of x))
-  unfolding termed
-  kind_told p h = rw p h
+module _ (a : List Term) (p d : ℕ) where
+  pub one_left : d ≡ 1 → Ok (get_or a 0 Number) ≡ termed (ending (rule.last p (stack_of a d)))
+  unfolding stack_of termed
+  one_left e = rw e (ap Ok (sym (term_back (get_or a 0 Number))))
 
-module _ (a : List Term) (p d : ℕ) {v : Answer} where
-  pub one_left : d ≡ 1 → v ≡ termed (given (term_of (get_or a 0 Number))) → v ≡ termed (ending (rule.last p (stack_of a d)))
-  unfolding stack_of
-  one_left e h = rw e h
-
-pub not_one_left : (a : List Term) (p d : ℕ) {v : Answer} → (d ≡ 1 → ⊥) → v ≡ answer (verdict.Refused (cause.Malformed p)) p D.one → v ≡ termed (ending (rule.last p (stack_of a d)))
-unfolding stack_of termed why.told
-not_one_left a p zero e h = h
+pub not_one_left : (a : List Term) (p d : ℕ) {y : Fault} → (d ≡ 1 → ⊥) → y ≡ fault p (cause.Malformed p) → Err y ≡ termed (ending (rule.last p (stack_of a d)))
+unfolding stack_of termed
+not_one_left a p zero e h = ap Err h
 not_one_left a p (suc zero) e h = absurd (e refl)
-not_one_left a p (suc (suc d)) e h = h
+not_one_left a p (suc (suc d)) e h = ap Err h
 
 -- ---- 50 first
-module _ (K : Kinds) (R : Rows) (s : List ℕ) {w : Shape} {v : Answer} where
-  pub run_bad : {p : ℕ} → w ≡ Bad p → w ≡ shaped (malformed_in s) → v ≡ answer (verdict.Refused (cause.Malformed p)) p D.one → v ≡ termed (formula_in K R s)
-  unfolding termed why.told
-  run_bad q e h = rw (bad_formula s K R q e) h
+module _ (K : Kinds) (R : Rows) (s : List ℕ) {w : Option ℕ} (m : w ≡ malformed_in s) where
+  pub run_bad : {p : ℕ} {y : Fault} → w ≡ Some p → y ≡ fault p (cause.Malformed p) → Err y ≡ termed (formula_in K R s)
+  unfolding termed
+  run_bad q h = rw (bad_formula s K R q m, h)
 
-  pub run_fine : w ≡ Fine → w ≡ shaped (malformed_in s) → v ≡ termed (ending (rule.walk (rule.terms K R) (tokens_in s) 0 [])) → v ≡ termed (formula_in K R s)
-  run_fine q e h = rw (fine_formula s K R q e) h
+  pub run_fine : {v : Result Term Fault} → w ≡ None → v ≡ termed (ending (rule.walk (rule.terms K R) (tokens_in s) 0 [])) → v ≡ termed (formula_in K R s)
+  run_fine q h = rw (fine_formula s K R q m) h
 
-pub ruleset ends = (number_told, kind_told, one_left, not_one_left, run_bad, run_fine)
+pub ruleset turns = (goes_under, stops)
+
+pub ruleset ends = (one_left, not_one_left, run_bad, run_fine)

@@ -2,7 +2,8 @@
 use Prim.Native.Nat.{ℕ, ◌<◌}
 use mathlib.Core.Path.{◌≡◌, refl, sym, ap}
 use mathlib.Core.Bool.{Bool, true, false}
-use mathlib.Core.Option.{Option, some, none}
+use Rattle.std.specs.declared.option.Option.{Option}
+use Rattle.std.specs.declared.option.Option.TheVariants.{None, Some}
 use lib.Dec.{eqb}
 use borrow.Author.Tests.{eqb-true}
 use Rattle.laws.specs.Out.{given}
@@ -26,13 +27,13 @@ agreed x y k m e = go (eqb x y) refl
     go false p = let z : true ≡ false = cc in never z
 
 -- no point, and the kind itself
-pub scaled_tells : (K : Kinds) (code k m : ℕ) → scaled K code k ≡ given m → (K.difference k ≡ none) × (k ≡ m)
+pub scaled_tells : (K : Kinds) (code k m : ℕ) → scaled K code k ≡ given m → (K.difference k ≡ None) × (k ≡ m)
 unfolding scaled
 scaled_tells K code k m e = go (K.difference k) refl
   where
-    go : (d : Option ℕ) → K.difference k ≡ d → (K.difference k ≡ none) × (k ≡ m)
-    go (some d) p = let z : true ≡ false = cc in never z
-    go none p = (p, cc)
+    go : (d : Option ℕ) → K.difference k ≡ d → (K.difference k ≡ None) × (k ≡ m)
+    go (Some d) p = let z : true ≡ false = cc in never z
+    go None p = (p, cc)
 
 module _ (K : Kinds) (rows : Rows) (c : Guaranteed K rows) (s : Scalars K) where
   meant : (a k : ℕ) → K.dims a ≡ K.dims k → K.grade a ≡ K.grade k → meaning K (Kind a) ≡ meaning K (Kind k)
@@ -44,12 +45,12 @@ module _ (K : Kinds) (rows : Rows) (c : Guaranteed K rows) (s : Scalars K) where
   sum_meant t l r k e = go t (K.difference l) refl (K.difference r) refl e
     where
       go : (t : Sum) (d : Option ℕ) → K.difference l ≡ d → (f : Option ℕ) → K.difference r ≡ f → sum_by t d f l r ≡ given k → meaning K (Kind l) ≡ meaning K (Kind k)
-      go Sub (some d) p (some f) q e = let z = agreed l r d k e in rw (← z.1) (meant l d (sym (c.difference l d p).dims) (sym (s.points l d p)))
-      go Add (some d) p (some f) q e = let z : true ≡ false = cc in never z
-      go t (some d) p none q e = let z = agreed d r l k e in rw z.1
-      go Add none p (some f) q e = let z = agreed f l r k e in rw (← z.0, ← z.1) (meant f r (c.difference r f q).dims (s.points r f q))
-      go Sub none p (some f) q e = let z : true ≡ false = cc in never z
-      go t none p none q e = let z = agreed l r l k e in rw z.1
+      go Sub (Some d) p (Some f) q e = let z = agreed l r d k e in rw (← z.1) (meant l d (sym (c.difference l d p).dims) (sym (s.points l d p)))
+      go Add (Some d) p (Some f) q e = let z : true ≡ false = cc in never z
+      go t (Some d) p None q e = let z = agreed d r l k e in rw z.1
+      go Add None p (Some f) q e = let z = agreed f l r k e in rw (← z.0, ← z.1) (meant f r (c.difference r f q).dims (s.points r f q))
+      go Sub None p (Some f) q e = let z : true ≡ false = cc in never z
+      go t None p None q e = let z = agreed l r l k e in rw z.1
 
   -- ---- "products add or subtract exponents and use the grade rule"
   derived_meant : (l : ℕ) (op : ProductOp) (r k : ℕ) (x : Graded) → Derived K l op r x → Carries K x k → product_of K op (meaning K (Kind l)) (meaning K (Kind r)) ≡ given (meaning K (Kind k))
@@ -63,11 +64,11 @@ module _ (K : Kinds) (rows : Rows) (c : Guaranteed K rows) (s : Scalars K) where
   raised_meant : (e : Rational) (k m : ℕ) → 0 < e.den → F.is_one e ≡ false → raised K k e ≡ given m → powered e (K.dims k) (K.grade k) ≡ meaning K (Kind m)
   raised_meant e k m h p x = let r = raised_power K rows c e k m h x in rw (r.1, p, r.2.dims, r.2.grade s, r.2.answers)
 
-  pub power_meant : (code k m : ℕ) (e : Rational) → 0 < e.den → power K code k (some e) ≡ given m → powered e (K.dims k) (K.grade k) ≡ meaning K (Kind m)
+  pub power_meant : (code k m : ℕ) (e : Rational) → 0 < e.den → power K code k (Some e) ≡ given m → powered e (K.dims k) (K.grade k) ≡ meaning K (Kind m)
   unfolding power scaled
   power_meant code k m e h x = go (K.difference k) refl (F.is_one e) refl
     where
       go : (d : Option ℕ) → K.difference k ≡ d → (t : Bool) → F.is_one e ≡ t → powered e (K.dims k) (K.grade k) ≡ meaning K (Kind m)
-      go (some d) p t q = let z : true ≡ false = cc in never z
-      go none p true q = let z : k ≡ m = cc in rw q (ap (λ (j : ℕ). meaning K (Kind j)) z)
-      go none p false q = raised_meant e k m h q (rw (p, q) at x)
+      go (Some d) p t q = let z : true ≡ false = cc in never z
+      go None p true q = let z : k ≡ m = cc in rw q (ap (λ (j : ℕ). meaning K (Kind j)) z)
+      go None p false q = raised_meant e k m h q (rw (p, q) at x)

@@ -3,7 +3,8 @@ use Prim.Native.Nat.{ℕ}
 use mathlib.Core.Path.{◌≡◌, refl, sym, ◌∙◌}
 use mathlib.Core.Bool.{Bool, true, false, cond, not, true≢false}
 use mathlib.Core.List.{List, [], ◌∷◌}
-use mathlib.Core.Option.{Option, some, none}
+use Rattle.std.specs.declared.option.Option.{Option}
+use Rattle.std.specs.declared.option.Option.TheVariants.{None, Some}
 use lib.Dec.{ltb, eqb}
 use Rattle.laws.specs.Out.{given, refused, ◌>>=◌, ◌>>◌, mapped, refuse_if, needed}
 use Rattle.dimension.specs.Fraction as F
@@ -11,11 +12,9 @@ use Rattle.dimension.specs.Dimension as D
 use Rattle.dimension.specs.declared.rational.Rational.{Rational}
 use Rattle.dimension.specs.declared.grade.ProductOp.{ProductOp}
 use Rattle.dimension.specs.declared.grade.ProductOp.TheVariants.{Mul, Div, Dot, Wedge}
-use Rattle.dimension.specs.declared.grade.Grade.{Grade}
-use Rattle.dimension.specs.declared.grade.Grade.TheVariants.{Single, Absent}
 use Rattle.rules.specs.Kinds.{Kinds, Rows, point}
 use Rattle.rules.specs.Refusal.{Refusal, Answer, UnresolvedDimensions, Point, PowerOverLimits, NoKind, KindMismatch, UnsupportedOperation, UngradedPower, absent}
-use Rattle.rules.specs.Arithmetic.{Sum, Add, Sub, summed, multiplied, indexed, operand, single, grade_by, graded, derive, or_fitting, settle, agree, sum_by, sum, scaled, neutral_power, raised, power}
+use Rattle.rules.specs.Arithmetic.{Sum, Add, Sub, summed, multiplied, indexed, operand, grade_by, graded, derive, or_fitting, settle, agree, sum_by, sum, scaled, neutral_power, raised, power}
 use Rattle.rules.specs.Formula.{Unary, exact, inexact, absolute, Binary, combined, compared, Term, Number, Kind, with_number, one_kind, unary_term, kind_term}
 use Rattle.guarantees.specs.Larger.{lifts}
 use Rattle.guarantees.proofs.Grows.{GrownOut}
@@ -45,8 +44,8 @@ module _ (rows : Rows) where
     calm_cond false m n h k = k
 
     calm_needed : (o : Option A) (x : Refusal) → lifts rows x ≡ false → Calm (needed o x)
-    calm_needed none x h = h
-    calm_needed (some a) x h = tt
+    calm_needed None x h = h
+    calm_needed (Some a) x h = tt
 
     -- so it stays
     pub stays : (m : Answer A) → Calm m → GrownOut (lifts rows) m m
@@ -56,10 +55,6 @@ module _ (rows : Rows) where
   calm_if : (t : Bool) (x : Refusal) → lifts rows x ≡ false → Calm (refuse_if t x)
   calm_if true x h = h
   calm_if false x h = tt
-
-  calm_single : (g : Grade) (x : Refusal) → lifts rows x ≡ false → Calm (single g x)
-  calm_single (Single g) x h = tt
-  calm_single Absent x h = h
 
   calm_settle : (o : List ℕ) (x : Refusal) (f : List ℕ → Answer ℕ) → lifts rows x ≡ false → ((ks : List ℕ) → Calm (f ks)) → Calm (settle o (refused x) given f)
   calm_settle (k ∷ []) x f h c = tt
@@ -79,7 +74,7 @@ module _ (rows : Rows) where
         (λ a. calm_bind (operand K r) _ (operand_calm r)
         (λ b. calm_then (refuse_if (point K l) (Point l op r l)) _ (calm_if (point K l) (Point l op r l) refl)
         (calm_then (refuse_if (point K r) (Point l op r r)) _ (calm_if (point K r) (Point l op r r) refl)
-        (calm_bind (graded K l op r) _ (calm_single (grade_by K op (K.grade l) (K.grade r)) _ refl) (λ g. tt)))))
+        (calm_bind (graded K l op r) _ (calm_needed (grade_by K op (K.grade l) (K.grade r)) _ refl) (λ g. tt)))))
 
     pub agree_calm : (x y k : ℕ) → Calm (agree x y k)
     agree_calm x y k = calm_cond (eqb x y) (given k) (refused (KindMismatch x y)) tt refl
@@ -89,12 +84,12 @@ module _ (rows : Rows) where
     sum_calm s l r = go s (K.difference l) (K.difference r)
       where
         go : (s : Sum) (d e : Option ℕ) → Calm (sum_by s d e l r)
-        go Sub (some d) (some e) = agree_calm l r d
-        go Add (some d) (some e) = refl
-        go s (some d) none = agree_calm d r l
-        go Add none (some e) = agree_calm e l r
-        go Sub none (some e) = refl
-        go s none none = agree_calm l r l
+        go Sub (Some d) (Some e) = agree_calm l r d
+        go Add (Some d) (Some e) = refl
+        go s (Some d) None = agree_calm d r l
+        go Add None (Some e) = agree_calm e l r
+        go Sub None (Some e) = refl
+        go s None None = agree_calm l r l
 
     scaled_calm : (c k : ℕ) → Calm (scaled K c k)
     unfolding scaled
@@ -105,13 +100,13 @@ module _ (rows : Rows) where
     raised_calm k e =
         calm_then (refuse_if (not (eqb (K.grade k) 0)) (UngradedPower (K.grade k))) _ (calm_if (not (eqb (K.grade k) 0)) (UngradedPower (K.grade k)) refl)
         (calm_bind (operand K k) _ (operand_calm k)
-        (λ a. calm_then (refuse_if (D.power a e).over (PowerOverLimits k)) _ (calm_if (D.power a e).over (PowerOverLimits k) refl)
-        (calm_settle (or_fitting K (neutral_power K k e) (record { dims = (D.power a e).value; grade = 0 })) _ _ refl (λ ks. refl))))
+        (λ a. calm_bind (needed (D.power a e) (PowerOverLimits k)) _ (calm_needed (D.power a e) (PowerOverLimits k) refl)
+        (λ d. calm_settle (or_fitting K (neutral_power K k e) (record { dims = d; grade = 0 })) _ _ refl (λ ks. refl))))
 
     power_calm : (c k : ℕ) (e : Option Rational) → Calm (power K c k e)
     unfolding power
-    power_calm c k none = refl
-    power_calm c k (some e) = calm_then (scaled K c k) _ (scaled_calm c k) (calm_cond (F.is_one e) (given k) (raised K k e) tt (raised_calm k e))
+    power_calm c k None = refl
+    power_calm c k (Some e) = calm_then (scaled K c k) _ (scaled_calm c k) (calm_cond (F.is_one e) (given k) (raised K k e) tt (raised_calm k e))
 
     with_number_calm : (b : Binary) (k : ℕ) (m : Answer ℕ) → Calm m → Calm (with_number K b k m)
     unfolding with_number
@@ -126,13 +121,13 @@ module _ (rows : Rows) where
     pub by_number_calm : (b : Binary) (k : ℕ) → Calm (with_number K b k (scaled K 5 k))
     by_number_calm b k = with_number_calm b k (scaled K 5 k) (scaled_calm 5 k)
 
-    pub number_by_calm : (b : Binary) (k : ℕ) (e : Rational) → Calm (with_number K b k (power K 5 k (some e)))
-    number_by_calm b k e = with_number_calm b k (power K 5 k (some e)) (power_calm 5 k (some e))
+    pub number_by_calm : (b : Binary) (k : ℕ) (e : Rational) → Calm (with_number K b k (power K 5 k (Some e)))
+    number_by_calm b k e = with_number_calm b k (power K 5 k (Some e)) (power_calm 5 k (Some e))
 
     one_kind_calm : (u : Unary) (k : ℕ) → Calm (one_kind K u k)
     unfolding one_kind
-    one_kind_calm (exact e) k = power_calm 8 k (some e)
-    one_kind_calm inexact k = power_calm 9 k none
+    one_kind_calm (exact e) k = power_calm 8 k (Some e)
+    one_kind_calm inexact k = power_calm 9 k None
     one_kind_calm absolute k = scaled_calm 10 k
 
     pub unary_calm : (u : Unary) (t : Term) → Calm (unary_term K u t)

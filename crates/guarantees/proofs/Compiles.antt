@@ -2,7 +2,8 @@
 use Prim.Native.Nat.{ℕ, ◌<◌, ◌≤◌}
 use mathlib.Core.Path.{◌≡◌, refl, ◌∙◌, subst}
 use mathlib.Core.Bool.{true, false, true≢false}
-use mathlib.Core.Option.{Option, some, none}
+use Rattle.std.specs.declared.option.Option.{Option}
+use Rattle.std.specs.declared.option.Option.TheVariants.{None, Some}
 use Rattle.laws.specs.Out.{Out, given}
 use Rattle.laws.proofs.Checks.{then_given}
 use Rattle.laws.proofs.First.{first_below, first_passes, first_here}
@@ -60,7 +61,7 @@ compile_tells C c e = let a = then_given (compiles C) _ e in (passes C a.1, inne
 
 -- ---- an accepted row, for each left, operation and right that it is one for
 module _ (C : Catalog) (i : ℕ) (a : Accepted C i) (l : ℕ) (op : ProductOp) (r : ℕ) where
-  covered_row : ((k : ℕ) (d : Dimensions) → (kinds_of C).dims k ≡ some d → D.Sound d) → Covered C l op r (C.row i) → IsRow (kinds_of C) l op r a.result
+  covered_row : ((k : ℕ) (d : Dimensions) → (kinds_of C).dims k ≡ Some d → D.Sound d) → Covered C l op r (C.row i) → IsRow (kinds_of C) l op r a.result
   covered_row sound (direct o p q) =
       let z = agreed_some a.finds_left p in
       let y = agreed_some a.finds_right q in
@@ -70,7 +71,7 @@ module _ (C : Catalog) (i : ℕ) (a : Accepted C i) (l : ℕ) (op : ProductOp) (
       let y = agreed_some a.finds_right q in
       rw (z, y, o) at (row_turned (kinds_of C) a.left (C.row i).op a.right (a.no_quotient c) sound a.row)
 
-  pub covered_only : Covered C l op r (C.row i) → row_among C i l op r ≡ none
+  pub covered_only : Covered C l op r (C.row i) → row_among C i l op r ≡ None
   covered_only (direct o p q) =
       let z = agreed_some a.finds_left p in
       let y = agreed_some a.finds_right q in
@@ -89,18 +90,18 @@ module _ (C : Catalog) (passed : Passed C) where
       rw (first_here (λ i. covers C l op r (C.row i)) i C.row_count h n refl t)
 
   -- and what is in force stands in a row
-  pub row_from_law : (l : ℕ) (op : ProductOp) (r k : ℕ) → rows_of C l op r ≡ some k
-      → (i : ℕ) × (i < C.row_count) × (covers C l op r (C.row i) ≡ true) × (find C (C.row i).result ≡ some k)
+  pub row_from_law : (l : ℕ) (op : ProductOp) (r k : ℕ) → rows_of C l op r ≡ Some k
+      → (i : ℕ) × (i < C.row_count) × (covers C l op r (C.row i) ≡ true) × (find C (C.row i).result ≡ Some k)
   unfolding rows_of row_among
   row_from_law l op r k e = go (row_among C C.row_count l op r) refl
     where
-      go : (o : Option ℕ) → row_among C C.row_count l op r ≡ o → (i : ℕ) × (i < C.row_count) × (covers C l op r (C.row i) ≡ true) × (find C (C.row i).result ≡ some k)
-      go none p = let h : none ≡ some k = rw p at e in let z : true ≡ false = cc in absurd (true≢false z)
-      go (some i) p =
+      go : (o : Option ℕ) → row_among C C.row_count l op r ≡ o → (i : ℕ) × (i < C.row_count) × (covers C l op r (C.row i) ≡ true) × (find C (C.row i).result ≡ Some k)
+      go None p = let h : None ≡ Some k = rw p at e in let z : true ≡ false = cc in absurd (true≢false z)
+      go (Some i) p =
           (i, first_below (λ i. covers C l op r (C.row i)) C.row_count p, first_passes (λ i. covers C l op r (C.row i)) C.row_count p, rw p at e)
 
-  module _ (quiet : Quiet C) (grade : (k : ℕ) → (C.kind k).grade ≤ 3) (declared : (k : ℕ) (a : Dimensions) → (C.kind k).dims ≡ some a → D.Declared a) where
-    row_is : (l : ℕ) (op : ProductOp) (r k : ℕ) → rows_of C l op r ≡ some k → IsRow (kinds_of C) l op r k
+  module _ (quiet : Quiet C) (grade : (k : ℕ) → (C.kind k).grade ≤ 3) (declared : (k : ℕ) (a : Dimensions) → (C.kind k).dims ≡ Some a → D.Declared a) where
+    row_is : (l : ℕ) (op : ProductOp) (r k : ℕ) → rows_of C l op r ≡ Some k → IsRow (kinds_of C) l op r k
     unfolding kinds_of
     row_is l op r k e =
         let f = row_from_law l op r k e in
@@ -122,13 +123,13 @@ module _ (C : Catalog) (passed : Passed C) where
     }
 
 -- a catalog that compiles has a scalar time kind (16): so where each point has its difference's grade, duration is scalar
-pub duration_follows : (C : Catalog) → Passed C → ((k d : ℕ) → (kinds_of C).difference k ≡ some d → (kinds_of C).grade d ≡ (kinds_of C).grade k)
-    → (d : ℕ) → duration (kinds_of C) ≡ some d → (kinds_of C).grade d ≡ 0
+pub duration_follows : (C : Catalog) → Passed C → ((k d : ℕ) → (kinds_of C).difference k ≡ Some d → (kinds_of C).grade d ≡ (kinds_of C).grade k)
+    → (d : ℕ) → duration (kinds_of C) ≡ Some d → (kinds_of C).grade d ≡ 0
 duration_follows C passed points d e = go (kinds_of C).time refl
   where
     go : (o : Option ℕ) → (kinds_of C).time ≡ o → (kinds_of C).grade d ≡ 0
-    go none p = let h : none ≡ some d = rw p at e in let z : true ≡ false = cc in absurd (true≢false z)
-    go (some t) p = points t d (rw p at e) ∙ (time_tells C t passed.time p).1
+    go None p = let h : None ≡ Some d = rw p at e in let z : true ≡ false = cc in absurd (true≢false z)
+    go (Some t) p = points t d (rw p at e) ∙ (time_tells C t passed.time p).1
 
 pub extends : (S L : Catalog) → Passed S → Passed L → MoreRows S L → Extends (rows_of S) (rows_of L)
 extends S L p q f l op r k e =

@@ -3,7 +3,7 @@ use Prim.Native.Nat.{ℕ, zero, suc, ◌+◌, ◌-◌, ◌*◌, ◌%◌, ◌<◌
 use mathlib.Core.Path.{◌≡◌, refl, sym, ◌∙◌, ap, subst}
 use mathlib.Core.Bool.{Bool, true, false, ◌&&◌, ◌||◌, true≢false}
 use mathlib.Core.List.{List}
-use mathlib.Core.Option.{some, none}
+use Rattle.std.specs.declared.option.Option.TheVariants.{None, Some}
 use native.Mathlib.Omega.{arith}
 use lib.Dec.{eqb, ltb, leb}
 use borrow.Author.Tests.{eqb-true, eqb-false, eq-eqb, lt-ltb, le-leb, ltb-true, ltb-false}
@@ -116,24 +116,24 @@ module _ (s : List ℕ) (bytes : Bytes s) where
       declared = λ b l. rw (tab_at (λ b. exponent_at s (kind_at k + 96 + 4 * b)) 12 b F.zero l) (exponent_declared k b h l flag);
     }
 
-    dims_declared : (k : ℕ) (a : Dimensions) → k < kind_count s → dims_at s (kind_at k) ≡ some a → D.Declared a
+    dims_declared : (k : ℕ) (a : Dimensions) → k < kind_count s → dims_at s (kind_at k) ≡ Some a → D.Declared a
     unfolding dims_at
     dims_declared k a h e = go (eqb (byte s (kind_at k + 144)) 1) refl
       where
         go : (t : Bool) → eqb (byte s (kind_at k + 144)) 1 ≡ t → D.Declared a
         go true q =
-            let r : some (D.dimensions (tab (λ b. exponent_at s (kind_at k + 96 + 4 * b)) 12)) ≡ some a = rw q at e in
+            let r : Some (D.dimensions (tab (λ b. exponent_at s (kind_at k + 96 + 4 * b)) 12)) ≡ Some a = rw q at e in
             let z : D.dimensions (tab (λ b. exponent_at s (kind_at k + 96 + 4 * b)) 12) ≡ a = cc in
             subst D.Declared z (given_declared k h (eqb-true _ 1 q))
-        go false q = let r : none ≡ some a = rw q at e in let z : true ≡ false = cc in absurd (true≢false z)
+        go false q = let r : None ≡ Some a = rw q at e in let z : true ≡ false = cc in absurd (true≢false z)
 
-    pub exponents : (k : ℕ) (a : Dimensions) → ((catalog_in s).kind k).dims ≡ some a → D.Declared a
+    pub exponents : (k : ℕ) (a : Dimensions) → ((catalog_in s).kind k).dims ≡ Some a → D.Declared a
     unfolding kind_from
     exponents k a e = go (ltb k (kind_count s)) refl
       where
         go : (t : Bool) → ltb k (kind_count s) ≡ t → D.Declared a
         go true q = let h = ltb-true k (kind_count s) q in dims_declared k a h (ap (λ (x : Kind). x.dims) (sym (in_image k h)) ∙ e)
         go false q =
-            let z : none ≡ some a = ap (λ (x : Kind). x.dims) (sym (past_image k (ltb-false k (kind_count s) q))) ∙ e in
+            let z : None ≡ Some a = ap (λ (x : Kind). x.dims) (sym (past_image k (ltb-false k (kind_count s) q))) ∙ e in
             let y : true ≡ false = cc in
             absurd (true≢false y)

@@ -3,7 +3,8 @@ use Prim.Native.Nat.{ℕ, zero, suc, ◌+◌, ◌*◌, ◌<◌, ◌≤◌}
 use mathlib.Core.Path.{◌≡◌, refl, sym, ◌∙◌}
 use mathlib.Core.Bool.{Bool, true, false, cond, not, ◌&&◌, ◌||◌, true≢false}
 use mathlib.Core.List.{List, ◌++◌}
-use mathlib.Core.Option.{Option, some, none}
+use Rattle.std.specs.declared.option.Option.{Option}
+use Rattle.std.specs.declared.option.Option.TheVariants.{None, Some}
 use native.Mathlib.Omega.{arith}
 use lib.Dec.{eqb}
 use lib.ListN.{length, length-append, get_or-append}
@@ -45,7 +46,7 @@ module _ (l : ℕ) (op : ProductOp) (r : ℕ) (s e : List ℕ) (m : ℕ) (four :
   front_first = first_same (is_row (s ++ e) l op r) (is_row s l op r) m front_row
 
 -- a first that is found stays found
-pub longer : (test : ℕ → Bool) (m n : ℕ) {i : ℕ} → first test m ≡ some i → first test (m + n) ≡ some i
+pub longer : (test : ℕ → Bool) (m n : ℕ) {i : ℕ} → first test m ≡ Some i → first test (m + n) ≡ Some i
 unfolding first
 longer test m zero e = let z : m + 0 ≡ m = omega arith in rw z e
 longer test m (suc n) e = let z : m + suc n ≡ suc (m + n) = omega arith in rw (z, first, longer test m n e)
@@ -57,10 +58,10 @@ module _ (C : Catalog) where
   of_four x = go (find C x.left) refl (find C x.right) refl (find C x.result) refl
     where
       go : (a : Option ℕ) → find C x.left ≡ a → (b : Option ℕ) → find C x.right ≡ b → (c : Option ℕ) → find C x.result ≡ c → (m : ℕ) × (length (entries_of C x) ≡ 4 * m) × (m ≤ 2)
-      go none p b q c s = (0, rw p, omega arith)
-      go (some a) p none q c s = (0, rw (p, q), omega arith)
-      go (some a) p (some b) q none s = (0, rw (p, q, s), omega arith)
-      go (some a) p (some b) q (some c) s = last (x.commutative && not (eqb a b)) refl
+      go None p b q c s = (0, rw p, omega arith)
+      go (Some a) p None q c s = (0, rw (p, q), omega arith)
+      go (Some a) p (Some b) q None s = (0, rw (p, q, s), omega arith)
+      go (Some a) p (Some b) q (Some c) s = last (x.commutative && not (eqb a b)) refl
         where
           last : (t : Bool) → (x.commutative && not (eqb a b)) ≡ t → (m : ℕ) × (length (entries_of C x) ≡ 4 * m) × (m ≤ 2)
           last true u = (2, rw (p, q, s, u), omega arith)
@@ -121,8 +122,8 @@ module _ (C : Catalog) (n : ℕ) (a : Accepted C n) where
 -- ---- what the first entry for a pair says is what the first row for it says
 module _ (C : Catalog) (l : ℕ) (op : ProductOp) (r : ℕ) where
   abbrev pub Agrees : Option ℕ → List ℕ → ℕ → Type 0
-  Agrees none s m = first (is_row s l op r) m ≡ none
-  Agrees (some j) s m = (i : ℕ) × (first (is_row s l op r) m ≡ some i) × (find C (C.row j).result ≡ some (word s (4 * i + 3)))
+  Agrees None s m = first (is_row s l op r) m ≡ None
+  Agrees (Some j) s m = (i : ℕ) × (first (is_row s l op r) m ≡ Some i) × (find C (C.row j).result ≡ Some (word s (4 * i + 3)))
 
   module _ (n : ℕ) (a : Accepted C n) (s : List ℕ) (m : ℕ) (four : length s ≡ 4 * m) where
     abbrev x : Row

@@ -3,7 +3,8 @@ use Prim.Native.Nat.{ℕ, zero, suc, ◌+◌, ◌-◌, ◌*◌, ◌<◌, ◌≤�
 use mathlib.Core.Path.{◌≡◌, refl, ◌∙◌}
 use mathlib.Core.Bool.{Bool, true, false, not, ◌&&◌}
 use mathlib.Core.List.{List, [], ◌++◌}
-use mathlib.Core.Option.{Option, some, none}
+use Rattle.std.specs.declared.option.Option.{Option}
+use Rattle.std.specs.declared.option.Option.TheVariants.{None, Some}
 use native.Mathlib.Nat.{not-suc-le-zero, le_of_suc-le-suc}
 use native.Mathlib.Decide.{dec_le}
 use native.Mathlib.Omega.{arith}
@@ -65,10 +66,10 @@ module _ (C : Catalog) where
   of_in x = go (find C x.left) refl (find C x.right) refl (find C x.result) refl
     where
       go : (a : Option ℕ) → find C x.left ≡ a → (b : Option ℕ) → find C x.right ≡ b → (c : Option ℕ) → find C x.result ≡ c → AllIn (entries_of C x)
-      go none p b q c s = rw p none_in
-      go (some a) p none q c s = rw (p, q) none_in
-      go (some a) p (some b) q none s = rw (p, q, s) none_in
-      go (some a) p (some b) q (some c) s = last (x.commutative && not (eqb a b)) refl
+      go None p b q c s = rw p none_in
+      go (Some a) p None q c s = rw (p, q) none_in
+      go (Some a) p (Some b) q None s = rw (p, q, s) none_in
+      go (Some a) p (Some b) q (Some c) s = last (x.commutative && not (eqb a b)) refl
         where
           ha : a < C.kind_count
           ha = find_below C x.left p

@@ -3,7 +3,8 @@ use Prim.Native.Nat.{ℕ, ◌<◌, ◌≤◌}
 use mathlib.Core.Path.{◌≡◌, refl, sym}
 use mathlib.Core.Bool.{Bool, true, false, cond, not, ◌&&◌, true≢false}
 use mathlib.Core.List.{List, [], ◌∷◌}
-use mathlib.Core.Option.{Option, some, none}
+use Rattle.std.specs.declared.option.Option.{Option}
+use Rattle.std.specs.declared.option.Option.TheVariants.{None, Some}
 use native.Mathlib.Omega.{arith}
 use lib.ListN.{length}
 use borrow.Author.Tests.{eqb-true}
@@ -54,19 +55,19 @@ pub and_apart : (s t : Bool) → (s && t) ≡ false → s ≡ true → t ≡ fal
 and_apart true t e p = e
 and_apart false t e p = cc
 
-pub some_false : {A : Type 0} (o : Option A) → is_some o ≡ false → o ≡ none
-some_false none e = refl
-some_false (some a) e = cc
+pub some_false : {A : Type 0} (o : Option A) → is_some o ≡ false → o ≡ None
+some_false None e = refl
+some_false (Some a) e = cc
 
 pub same_dims_law : (a b : Option Dimensions) → same_dims a b ≡ true → a ≡ b
-same_dims_law none none e = refl
-same_dims_law none (some b) e = cc
-same_dims_law (some a) none e = cc
-same_dims_law (some a) (some b) e = let z : a ≡ b = L.equal_same a b e in rw z
+same_dims_law None None e = refl
+same_dims_law None (Some b) e = cc
+same_dims_law (Some a) None e = cc
+same_dims_law (Some a) (Some b) e = let z : a ≡ b = L.equal_same a b e in rw z
 
-pub meant_is : (k : ℕ) (o : Option ℕ) → meant k o ≡ true → o ≡ some k
-meant_is k none e = cc
-meant_is k (some j) e = let z : j ≡ k = eqb-true j k e in rw z
+pub meant_is : (k : ℕ) (o : Option ℕ) → meant k o ≡ true → o ≡ Some k
+meant_is k None e = cc
+meant_is k (Some j) e = let z : j ≡ k = eqb-true j k e in rw z
 
-pub agreed_some : {A : Type 0} {o : Option A} {a b : A} → o ≡ some a → o ≡ some b → a ≡ b
+pub agreed_some : {A : Type 0} {o : Option A} {a b : A} → o ≡ Some a → o ≡ Some b → a ≡ b
 agreed_some p q = cc

@@ -3,7 +3,8 @@ use Prim.Native.Nat.{ℕ, zero, suc, ◌+◌, ◌*◌, ◌/◌, ◌<◌, ◌≤�
 use mathlib.Core.Path.{◌≡◌, refl, sym, ◌∙◌, ap, fun_ext}
 use mathlib.Core.Bool.{Bool, true, false, cond, not, ◌&&◌, ◌||◌}
 use mathlib.Core.List.{List, [], ◌++◌}
-use mathlib.Core.Option.{Option, some, none}
+use Rattle.std.specs.declared.option.Option.{Option}
+use Rattle.std.specs.declared.option.Option.TheVariants.{None, Some}
 use native.Mathlib.Nat.{le_trans}
 use native.Mathlib.Omega.{arith}
 use lib.Dec.{eqb}
@@ -29,23 +30,23 @@ use Rattle.guarantees.proofs.Entries.{front_word, front_first, longer, in_four, 
 
 module _ (C : Catalog) (l : ℕ) (op : ProductOp) (r : ℕ) where
   -- ---- one row more
-  among_on : (n : ℕ) {j : ℕ} → row_among C n l op r ≡ some j → row_among C (suc n) l op r ≡ some j
+  among_on : (n : ℕ) {j : ℕ} → row_among C n l op r ≡ Some j → row_among C (suc n) l op r ≡ Some j
   unfolding row_among first
   among_on n e = rw e
 
-  among_here : (n : ℕ) {t : Bool} → row_among C n l op r ≡ none → covers C l op r (C.row n) ≡ t → row_among C (suc n) l op r ≡ cond t (some n) none
+  among_here : (n : ℕ) {t : Bool} → row_among C n l op r ≡ None → covers C l op r (C.row n) ≡ t → row_among C (suc n) l op r ≡ cond t (Some n) None
   unfolding row_among first
   among_here n e c = rw (e, c)
 
   module _ (n : ℕ) (a : Accepted C n) (s : List ℕ) (m : ℕ) (four : length s ≡ 4 * m) where
     -- a row was found already
-    kept : (j : ℕ) (e : List ℕ) (k : ℕ) → Agrees C l op r (some j) s m → Agrees C l op r (some j) (s ++ e) (m + k)
+    kept : (j : ℕ) (e : List ℕ) (k : ℕ) → Agrees C l op r (Some j) s m → Agrees C l op r (Some j) (s ++ e) (m + k)
     kept j e k h =
         let b : h.0 < m = first_below (is_row s l op r) m h.1 in
-        (h.0, longer (is_row (s ++ e) l op r) m k (front_first l op r s e m four ∙ h.1), h.2 ∙ ap some (sym (front_word s e m four h.0 3 b (omega arith))))
+        (h.0, longer (is_row (s ++ e) l op r) m k (front_first l op r s e m four ∙ h.1), h.2 ∙ ap Some (sym (front_word s e m four h.0 3 b (omega arith))))
 
-    module _ (none_yet : first (is_row s l op r) m ≡ none) where
-      front_none : (e : List ℕ) → first (is_row (s ++ e) l op r) m ≡ none
+    module _ (none_yet : first (is_row s l op r) m ≡ None) where
+      front_none : (e : List ℕ) → first (is_row (s ++ e) l op r) m ≡ None
       front_none e = front_first l op r s e m four ∙ none_yet
 
       abbrev H : Bool
@@ -61,26 +62,26 @@ module _ (C : Catalog) (l : ℕ) (op : ProductOp) (r : ℕ) where
       D = double C n a
 
       -- the row stands once
-      by_one : (t : Bool) → H ≡ t → Agrees C l op r (cond t (some n) none) (s ++ S) (m + 1)
+      by_one : (t : Bool) → H ≡ t → Agrees C l op r (cond t (Some n) None) (s ++ S) (m + 1)
       by_one true p =
-          (m, first_here (is_row (s ++ S) l op r) m (m + 1) (omega arith) (front_none S) refl (first_entry C l op r n a s m four [] ∙ p), a.finds_result ∙ ap some (sym (first_result C l op r n a s m four [])))
+          (m, first_here (is_row (s ++ S) l op r) m (m + 1) (omega arith) (front_none S) refl (first_entry C l op r n a s m four [] ∙ p), a.finds_result ∙ ap Some (sym (first_result C l op r n a s m four [])))
       by_one false p = first_next (is_row (s ++ S) l op r) m (front_none S) refl (first_entry C l op r n a s m four [] ∙ p)
 
       -- or for the turned pair too
       two_on : m + 2 ≡ m + 1 + 1
       two_on = omega arith
 
-      by_two : (t : Bool) → H ≡ t → (u : Bool) → T ≡ u → Agrees C l op r (cond (t || u) (some n) none) (s ++ D) (m + 2)
+      by_two : (t : Bool) → H ≡ t → (u : Bool) → T ≡ u → Agrees C l op r (cond (t || u) (Some n) None) (s ++ D) (m + 2)
       by_two true p u q = (
         m,
         first_here (is_row (s ++ D) l op r) m (m + 2) (omega arith) (front_none D) refl (first_entry C l op r n a s m four _ ∙ p),
-        a.finds_result ∙ ap some (sym (first_result C l op r n a s m four _)),
+        a.finds_result ∙ ap Some (sym (first_result C l op r n a s m four _)),
       )
       by_two false p true q =
           let f = first_next (is_row (s ++ D) l op r) m (front_none D) refl (first_entry C l op r n a s m four _ ∙ p) in (
             m + 1,
             first_here (is_row (s ++ D) l op r) (m + 1) (m + 2) (omega arith) f refl (second_entry C l op r n a s m four ∙ q),
-            a.finds_result ∙ ap some (sym (second_result C l op r n a s m four)),
+            a.finds_result ∙ ap Some (sym (second_result C l op r n a s m four)),
           )
       by_two false p false q =
           let f = first_next (is_row (s ++ D) l op r) m (front_none D) refl (first_entry C l op r n a s m four _ ∙ p) in
@@ -93,10 +94,10 @@ module _ (C : Catalog) (l : ℕ) (op : ProductOp) (r : ℕ) where
     next : (o : Option ℕ) → row_among C n l op r ≡ o → Agrees C l op r o s m → After
     next o p h = go ((C.row n).commutative && not (eqb a.left a.right)) refl
       where
-        on : (t : Bool) (k : ℕ) (e : List ℕ) → covers C l op r (C.row n) ≡ t → ((first (is_row s l op r) m ≡ none) → Agrees C l op r (cond t (some n) none) (s ++ e) (m + k))
+        on : (t : Bool) (k : ℕ) (e : List ℕ) → covers C l op r (C.row n) ≡ t → ((first (is_row s l op r) m ≡ None) → Agrees C l op r (cond t (Some n) None) (s ++ e) (m + k))
             → (o : Option ℕ) → row_among C n l op r ≡ o → Agrees C l op r o s m → Agrees C l op r (row_among C (suc n) l op r) (s ++ e) (m + k)
-        on t k e c f none p h = rw (among_here n p c) (f h)
-        on t k e c f (some j) p h = rw (among_on n p) (kept j e k h)
+        on t k e c f None p h = rw (among_here n p c) (f h)
+        on t k e c f (Some j) p h = rw (among_on n p) (kept j e k h)
 
         go : (t : Bool) → ((C.row n).commutative && not (eqb a.left a.right)) ≡ t → After
         go false u =
@@ -119,14 +120,14 @@ module _ (C : Catalog) (l : ℕ) (op : ProductOp) (r : ℕ) where
   quarter : (m : ℕ) → 4 * m / 4 ≡ m
   quarter m = omega arith
 
-  pub entries_said : (n : ℕ) → ((i : ℕ) → i < n → Accepted C i) → C.kind_count ≤ 240 → table.rows_of (entries_in C n) l op r ≡ found (row_among C n l op r) (λ i. find C (C.row i).result) none
+  pub entries_said : (n : ℕ) → ((i : ℕ) → i < n → Accepted C i) → C.kind_count ≤ 240 → table.rows_of (entries_in C n) l op r ≡ found (row_among C n l op r) (λ i. find C (C.row i).result) None
   unfolding table.rows_of
   entries_said n rows few = let g = agree n rows in rw (g.1, quarter g.0) (go g.0 (row_among C n l op r) g.2)
     where
       go : (m : ℕ) (o : Option ℕ) → Agrees C l op r o (entries_in C n) m
-          → found (first (is_row (entries_in C n) l op r) m) (λ i. index_or (word (entries_in C n) (4 * i + 3))) none ≡ found o (λ i. find C (C.row i).result) none
-      go m none h = rw h
-      go m (some j) h =
+          → found (first (is_row (entries_in C n) l op r) m) (λ i. index_or (word (entries_in C n) (4 * i + 3))) None ≡ found o (λ i. find C (C.row i).result) None
+      go m None h = rw h
+      go m (Some j) h =
           let b : word (entries_in C n) (4 * h.0 + 3) < absent = le_trans (find_below C (C.row j).result h.2) (le_trans few (omega arith)) in
           rw (h.1, h.2, lt-ltb (word (entries_in C n) (4 * h.0 + 3)) absent b)
 

@@ -3,7 +3,8 @@ use Prim.Native.Nat.{ℕ, ◌<◌}
 use mathlib.Core.Path.{◌≡◌, refl, ◌∙◌, ap}
 use mathlib.Core.Bool.{Bool, true, false, cond, ◌||◌}
 use mathlib.Core.List.{List, [], ◌∷◌}
-use mathlib.Core.Option.{Option, some, none}
+use Rattle.std.specs.declared.option.Option.{Option}
+use Rattle.std.specs.declared.option.Option.TheVariants.{None, Some}
 use lib.Dec.{ltb, eqb}
 use lib.IntN.{pos, neg_ℤ}
 use borrow.Author.Tests.{ltb-true}
@@ -36,54 +37,54 @@ module _ (K : Kinds) where
     sum_below t l r k hl hr e = go t (K.difference l) refl (K.difference r) refl e
       where
         go : (t : Sum) (d : Option ℕ) → K.difference l ≡ d → (f : Option ℕ) → K.difference r ≡ f → sum_by t d f l r ≡ given k → k < K.count
-        go Sub (some d) p (some f) q e = rw (← (agreed l r d k e).1) (w.difference l d p)
-        go Add (some d) p (some f) q e = let z : true ≡ false = cc in never z
-        go t (some d) p none q e = rw (← (agreed d r l k e).1) hl
-        go Add none p (some f) q e = rw (← (agreed f l r k e).1) hr
-        go Sub none p (some f) q e = let z : true ≡ false = cc in never z
-        go t none p none q e = rw (← (agreed l r l k e).1) hl
+        go Sub (Some d) p (Some f) q e = rw (← (agreed l r d k e).1) (w.difference l d p)
+        go Add (Some d) p (Some f) q e = let z : true ≡ false = cc in never z
+        go t (Some d) p None q e = rw (← (agreed d r l k e).1) hl
+        go Add None p (Some f) q e = rw (← (agreed f l r k e).1) hr
+        go Sub None p (Some f) q e = let z : true ≡ false = cc in never z
+        go t None p None q e = rw (← (agreed l r l k e).1) hl
 
-    neutral_below : (k m : ℕ) (e : Rational) → neutral_power K k e ≡ some m → m < K.count
+    neutral_below : (k m : ℕ) (e : Rational) → neutral_power K k e ≡ Some m → m < K.count
     unfolding neutral_power
     neutral_below k m e f = go K.dimensionless refl
       where
-        at : (o : ℕ) → K.dimensionless ≡ some o → (t : Bool) → cond t (some o) none ≡ some m → m < K.count
+        at : (o : ℕ) → K.dimensionless ≡ Some o → (t : Bool) → cond t (Some o) None ≡ Some m → m < K.count
         at o p true g = let z : o ≡ m = cc in rw (← z) (w.dimensionless o p)
         at o p false g = let z : true ≡ false = cc in never z
 
         go : (o : Option ℕ) → K.dimensionless ≡ o → m < K.count
-        go none p = let z : true ≡ false = cc in never z
-        go (some o) p = at o p (F.is_zero e || eqb k o) (rw p at f)
+        go None p = let z : true ≡ false = cc in never z
+        go (Some o) p = at o p (F.is_zero e || eqb k o) (rw p at f)
 
-    abbrev to : Dimensions → Rational → Graded
-    to a e = record { dims = (D.power a e).value; grade = 0 }
+    abbrev to : Option Dimensions → Graded
+    to w = record { dims = D.or_one w; grade = 0 }
 
     raised_below : (k m : ℕ) (e : Rational) → raised K k e ≡ given m → m < K.count
     unfolding raised operand
     raised_below k m e x = go (eqb (K.grade k) 0) refl (K.dims k) refl
       where
-        fit : (a : Dimensions) → K.dims k ≡ some a → eqb (K.grade k) 0 ≡ true → (w : Bool) → (D.power a e).over ≡ w → (f : Option ℕ) → neutral_power K k e ≡ f
-            → (ks : List ℕ) → candidates K (to a e) ≡ ks → m < K.count
-        fit a q g true w f v ks u = let z : true ≡ false = cc in never z
-        fit a q g false w (some j) v ks u = let z : j ≡ m = cc in neutral_below k m e (v ∙ ap some z)
-        fit a q g false w none v [] u = let z : true ≡ false = cc in never z
-        fit a q g false w none v (j ∷ []) u = let z : j ≡ m = cc in rw (← z) (head_passes (fits K (to a e)) K.count j [] u).1
-        fit a q g false w none v (j ∷ i ∷ ks) u = let z : true ≡ false = cc in never z
+        fit : (a : Dimensions) → K.dims k ≡ Some a → eqb (K.grade k) 0 ≡ true → (w : Option Dimensions) → D.power a e ≡ w → (f : Option ℕ) → neutral_power K k e ≡ f
+            → (ks : List ℕ) → candidates K (to w) ≡ ks → m < K.count
+        fit a q g None w f v ks u = let z : true ≡ false = cc in never z
+        fit a q g (Some b) w (Some j) v ks u = let z : j ≡ m = cc in neutral_below k m e (v ∙ ap Some z)
+        fit a q g (Some b) w None v [] u = let z : true ≡ false = cc in never z
+        fit a q g (Some b) w None v (j ∷ []) u = let z : j ≡ m = cc in rw (← z) (head_passes (fits K (to (Some b))) K.count j [] u).1
+        fit a q g (Some b) w None v (j ∷ i ∷ ks) u = let z : true ≡ false = cc in never z
 
         go : (t : Bool) → eqb (K.grade k) 0 ≡ t → (u : Option Dimensions) → K.dims k ≡ u → m < K.count
         go false g u q = let z : true ≡ false = cc in never z
-        go true g none q = let z : true ≡ false = cc in never z
-        go true g (some a) q = fit a q g (D.power a e).over refl (neutral_power K k e) refl (candidates K (to a e)) refl
+        go true g None q = let z : true ≡ false = cc in never z
+        go true g (Some a) q = fit a q g (D.power a e) refl (neutral_power K k e) refl (candidates K (to (D.power a e))) refl
 
     pub power_below : (code k m : ℕ) (e : Option Rational) → k < K.count → power K code k e ≡ given m → m < K.count
     unfolding power scaled
-    power_below code k m none h x = let z : true ≡ false = cc in never z
-    power_below code k m (some e) h x = go (K.difference k) refl (F.is_one e) refl
+    power_below code k m None h x = let z : true ≡ false = cc in never z
+    power_below code k m (Some e) h x = go (K.difference k) refl (F.is_one e) refl
       where
         go : (d : Option ℕ) → K.difference k ≡ d → (t : Bool) → F.is_one e ≡ t → m < K.count
-        go (some d) p t q = let z : true ≡ false = cc in never z
-        go none p true q = let z : k ≡ m = cc in rw (← z) h
-        go none p false q = raised_below k m e (rw (p, q) at x)
+        go (Some d) p t q = let z : true ≡ false = cc in never z
+        go None p true q = let z : k ≡ m = cc in rw (← z) h
+        go None p false q = raised_below k m e (rw (p, q) at x)
 
     scaled_below : (code k m : ℕ) → k < K.count → scaled K code k ≡ given m → m < K.count
     scaled_below code k m h e = rw (← (scaled_tells K code k m e).1) h
@@ -104,7 +105,7 @@ module _ (K : Kinds) where
     two_below compared l r k hl hr e = rw (← (agreed l r l k e).1) hl
 
     abbrev inverted : ℕ → Answer ℕ
-    inverted k = power K 5 k (some (F.ratio (neg_ℤ (pos 1)) 1))
+    inverted k = power K 5 k (Some (F.ratio (neg_ℤ (pos 1)) 1))
 
     binary_below : (b : Binary) (x y a : Term) → in_range x → in_range y → binary_term K rows b x y ≡ given a → in_range a
     unfolding binary_term
@@ -115,7 +116,7 @@ module _ (K : Kinds) where
         rw (← h.2) (number_below b k h.0 (scaled K 5 k) hx (scaled_below 5 k h.0 hx) h.1)
     binary_below b Number (Kind k) a hx hy e =
         let h = made (with_number K b k (inverted k)) a e in
-        rw (← h.2) (number_below b k h.0 (inverted k) hy (power_below 5 k h.0 (some (F.ratio (neg_ℤ (pos 1)) 1)) hy) h.1)
+        rw (← h.2) (number_below b k h.0 (inverted k) hy (power_below 5 k h.0 (Some (F.ratio (neg_ℤ (pos 1)) 1)) hy) h.1)
 
     unary_below : (u : Unary) (x a : Term) → in_range x → unary_term K u x ≡ given a → in_range a
     unfolding unary_term one_kind
@@ -123,8 +124,8 @@ module _ (K : Kinds) where
     unary_below u (Kind k) a h e = let d = made (one_kind K u k) a e in rw (← d.2) (go u d.0 d.1)
       where
         go : (u : Unary) (m : ℕ) → one_kind K u k ≡ given m → m < K.count
-        go (exact f) m x = power_below 8 k m (some f) h x
-        go inexact m x = power_below 9 k m none h x
+        go (exact f) m x = power_below 8 k m (Some f) h x
+        go inexact m x = power_below 9 k m None h x
         go absolute m x = scaled_below 10 k m h x
 
     kind_below : (k : ℕ) (a : Term) → kind_term K k ≡ given a → in_range a

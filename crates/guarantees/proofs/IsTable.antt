@@ -3,7 +3,8 @@ use Prim.Native.Nat.{ℕ, ◌+◌, ◌*◌, ◌/◌, ◌%◌, ◌<◌, ◌≤◌
 use mathlib.Core.Path.{◌≡◌, refl, ◌∙◌}
 use mathlib.Core.Bool.{Bool, true, false, cond, true≢false, or_comm}
 use mathlib.Core.List.{List}
-use mathlib.Core.Option.{Option, some, none}
+use Rattle.std.specs.declared.option.Option.{Option}
+use Rattle.std.specs.declared.option.Option.TheVariants.{None, Some}
 use native.Mathlib.Nat.{le_trans}
 use native.Mathlib.Omega.{arith}
 use lib.Dec.{eqb, ltb, leb}
@@ -32,19 +33,19 @@ module _ (t : List ℕ) (C : Catalog) (holds : Holds t C) (fit : Fits C) (long :
   is_kind_law : (k : ℕ) → k < C.kind_count → is_kind t k ≡ true
   is_kind_law k h = rw (head_kinds t C holds) (lt-ltb k C.kind_count h)
 
-  link_fine_law : (o : Option ℕ) → ((k : ℕ) → o ≡ some k → k < C.kind_count) → link_fine t (index_word o) ≡ true
-  link_fine_law none h = or_comm (is_kind t absent) true
-  link_fine_law (some k) h = rw (is_kind_law k (h k refl))
+  link_fine_law : (o : Option ℕ) → ((k : ℕ) → o ≡ Some k → k < C.kind_count) → link_fine t (index_word o) ≡ true
+  link_fine_law None h = or_comm (is_kind t absent) true
+  link_fine_law (Some k) h = rw (is_kind_law k (h k refl))
 
-  link_in : (id : Id) (k : ℕ) → link C id ≡ some k → k < C.kind_count
+  link_in : (id : Id) (k : ℕ) → link C id ≡ Some k → k < C.kind_count
   unfolding link
   link_in id k e = go (blank id) refl
     where
       go : (b : Bool) → blank id ≡ b → k < C.kind_count
-      go true p = let h : none ≡ some k = rw p at e in let z : true ≡ false = cc in absurd (true≢false z)
+      go true p = let h : None ≡ Some k = rw p at e in let z : true ≡ false = cc in absurd (true≢false z)
       go false p = find_below C id (rw p at e)
 
-  rate_in : (k j : ℕ) → rate_among C C.kind_count k ≡ some j → j < C.kind_count
+  rate_in : (k j : ℕ) → rate_among C C.kind_count k ≡ Some j → j < C.kind_count
   unfolding rate_among
   rate_in k j e = first_below (λ i. meant k (target_of C i)) C.kind_count e
 
@@ -95,9 +96,9 @@ module _ (t : List ℕ) (C : Catalog) (holds : Holds t C) (fit : Fits C) (long :
       where
         go : (o : Option ℕ) → difference_of C k ≡ o → (b : Bool)
             → cond (eqb (cond (is_some o) 1 (cond b 2 0)) 1) (is_kind t (index_word o)) (eqb (index_word o) absent) ≡ true
-        go none p true = refl
-        go none p false = refl
-        go (some d) p b = is_kind_law d (link_in (C.kind k).difference d p)
+        go None p true = refl
+        go None p false = refl
+        go (Some d) p b = is_kind_law d (link_in (C.kind k).difference d p)
 
     marks_fine_law : marks_fine t (16 + 32 * k) ≡ true
     unfolding marks_fine
@@ -111,8 +112,8 @@ module _ (t : List ℕ) (C : Catalog) (holds : Holds t C) (fit : Fits C) (long :
     exponents_fine_law = rw (flag_word t C holds k m h) (go (C.kind k).dims refl)
       where
         go : (o : Option Dimensions) → (C.kind k).dims ≡ o → cond (eqb (cond (is_some o) 1 0) 1) (all (λ b. F.declared (exponent_from t (16 + 32 * k) b)) 12) true ≡ true
-        go none p = refl
-        go (some a) p =
+        go None p = refl
+        go (Some a) p =
             all_of (λ b. F.declared (exponent_from t (16 + 32 * k) b)) 12
             (λ b l. rw (exponent_back t C holds fit k b a h l p) (E.told_declared (D.exponent a b) ((fit.declared k a p).declared b l)))
 

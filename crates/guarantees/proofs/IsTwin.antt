@@ -4,7 +4,8 @@ use Prim.Native.Nat.{ℕ}
 use mathlib.Core.Path.{◌≡◌, refl, ap}
 use mathlib.Core.Bool.{Bool, true, false, cond, true≢false}
 use mathlib.Core.List.{List, [], ◌∷◌}
-use mathlib.Core.Option.{Option, some, none}
+use Rattle.std.specs.declared.option.Option.{Option}
+use Rattle.std.specs.declared.option.Option.TheVariants.{None, Some}
 use lib.Dec.{ltb}
 use lib.IntN.{pos, neg_ℤ}
 use lib.ListN.{length}
@@ -20,7 +21,7 @@ use Rattle.guarantees.proofs.Calm.{Calm, derive_calm, agree_calm, sum_calm, by_n
 
 -- rows of every left, operation and right: what they do not lift is no 44
 abbrev pub every : Rows
-every l op r = some 0
+every l op r = Some 0
 
 pub not_twins : {A : Type 0} (m : Answer A) (l : ℕ) (op : ProductOp) (r : ℕ) (ks : List ℕ) → Calm every m → m ≡ refused (UnresolvedTwin l op r ks) → true ≡ false
 not_twins (given a) l op r ks c e = cc
@@ -41,8 +42,8 @@ module _ (K : Kinds) (rows : Rows) (l : ℕ) (op : ProductOp) (r : ℕ) (ks : Li
       at : (x : Graded) → derive K a o b ≡ given x → (u : List ℕ) → resolve K a o b x ≡ u → (w : Option ℕ) → rows a o b ≡ w → (a ≡ l) × (o ≡ op) × (b ≡ r)
       at x d (k ∷ []) p w q = let z : true ≡ false = cc in absurd (true≢false z)
       at x d [] p w q = let z : true ≡ false = cc in absurd (true≢false z)
-      at x d (m ∷ j ∷ js) p (some k) q = let z : true ≡ false = cc in absurd (true≢false z)
-      at x d (m ∷ j ∷ js) p none q = (cc, cc, cc)
+      at x d (m ∷ j ∷ js) p (Some k) q = let z : true ≡ false = cc in absurd (true≢false z)
+      at x d (m ∷ j ∷ js) p None q = (cc, cc, cc)
 
       go : (m : Answer Graded) → derive K a o b ≡ m → Calm every m → (a ≡ l) × (o ≡ op) × (b ≡ r)
       go (given x) d c = at x d (resolve K a o b x) refl (rows a o b) refl
@@ -89,7 +90,7 @@ module _ (K : Kinds) (rows : Rows) (l : ℕ) (op : ProductOp) (r : ℕ) (ks : Li
       let m = with_number K b k (scaled K 5 k) in
       absurd (true≢false (not_twins m l op r ks (by_number_calm every K b k) (unmapped m e)))
   binary_twin b Number (Kind k) s e =
-      let m = with_number K b k (power K 5 k (some (F.ratio (neg_ℤ (pos 1)) 1))) in
+      let m = with_number K b k (power K 5 k (Some (F.ratio (neg_ℤ (pos 1)) 1))) in
       absurd (true≢false (not_twins m l op r ks (number_by_calm every K b k (F.ratio (neg_ℤ (pos 1)) 1)) (unmapped m e)))
 
   pub is_twin : (t : Token) (s : List Term) → step (terms K rows) t s ≡ stop (UnresolvedTwin l op r ks) → IsTwin t s

@@ -2,7 +2,8 @@
 use Prim.Native.Nat.{ℕ, ◌<◌, ◌≤◌}
 use mathlib.Core.Path.{◌≡◌, refl, sym, ◌∙◌}
 use mathlib.Core.Bool.{Bool, true, false, not, ◌&&◌, true≢false}
-use mathlib.Core.Option.{Option, some, none}
+use Rattle.std.specs.declared.option.Option.{Option}
+use Rattle.std.specs.declared.option.Option.TheVariants.{None, Some}
 use lib.Dec.{eqb, ltb}
 use borrow.Author.Tests.{ltb-true, ltb-false, eqb-true, eq-eqb}
 use Rattle.laws.specs.Out.{given, needed}
@@ -25,7 +26,7 @@ use Rattle.guarantees.proofs.Given.{test_given, declared_given, not_true, some_f
 abbrev pub Quiet : Catalog → Type 0
 Quiet C = (k : ℕ) → C.kind_count ≤ k → C.kind k ≡ absent_kind
 
-pub operand_given : (K : Kinds) (k : ℕ) {d : Dimensions} → operand K k ≡ given d → K.dims k ≡ some d
+pub operand_given : (K : Kinds) (k : ℕ) {d : Dimensions} → operand K k ≡ given d → K.dims k ≡ Some d
 unfolding operand
 operand_given K k e = needed_given (K.dims k) (UnresolvedDimensions k) e
 
@@ -33,24 +34,24 @@ module _ (C : Catalog) where
   abbrev K : Kinds
   K = kinds_of C
 
-  pub find_below : (id : Id) {k : ℕ} → find C id ≡ some k → k < C.kind_count
+  pub find_below : (id : Id) {k : ℕ} → find C id ≡ Some k → k < C.kind_count
   unfolding find
   find_below id e = first_below _ C.kind_count e
 
-  pub called_given : (i : ℕ) (id : Id) {k : ℕ} → called C i id ≡ given k → find C id ≡ some k
+  pub called_given : (i : ℕ) (id : Id) {k : ℕ} → called C i id ≡ given k → find C id ≡ Some k
   unfolding called
   called_given i id e = needed_given (find C id) (Unknown i) e
 
   -- an id that names a kind is declared, and found
-  link_some : (id : Id) {k : ℕ} → link C id ≡ some k → (blank id ≡ false) × (find C id ≡ some k)
+  link_some : (id : Id) {k : ℕ} → link C id ≡ Some k → (blank id ≡ false) × (find C id ≡ Some k)
   unfolding link
   link_some id {k} e = go (blank id) refl
     where
-      go : (t : Bool) → blank id ≡ t → (blank id ≡ false) × (find C id ≡ some k)
-      go true p = let h : none ≡ some k = rw p at e in let z : true ≡ false = cc in absurd (true≢false z)
+      go : (t : Bool) → blank id ≡ t → (blank id ≡ false) × (find C id ≡ Some k)
+      go true p = let h : None ≡ Some k = rw p at e in let z : true ≡ false = cc in absurd (true≢false z)
       go false p = (p, rw p at e)
 
-  blank_link : (id : Id) → blank id ≡ true → link C id ≡ none
+  blank_link : (id : Id) → blank id ≡ true → link C id ≡ None
   unfolding link
   blank_link id e = rw e
 
@@ -59,91 +60,91 @@ module _ (C : Catalog) where
   in_count h = h
 
   -- a kind that names another is one of the catalog's
-  within : Quiet C → (f : ℕ → Option ℕ) → ((k : ℕ) → C.kind k ≡ absent_kind → f k ≡ none) → (k : ℕ) {d : ℕ} → f k ≡ some d → k < C.kind_count
+  within : Quiet C → (f : ℕ → Option ℕ) → ((k : ℕ) → C.kind k ≡ absent_kind → f k ≡ None) → (k : ℕ) {d : ℕ} → f k ≡ Some d → k < C.kind_count
   within quiet f nothing k {d} e = go (ltb k C.kind_count) refl
     where
       go : (t : Bool) → ltb k C.kind_count ≡ t → k < C.kind_count
       go true p = ltb-true k C.kind_count p
       go false p =
-          let z : none ≡ some d = sym (nothing k (quiet k (ltb-false k C.kind_count p))) ∙ e in
+          let z : None ≡ Some d = sym (nothing k (quiet k (ltb-false k C.kind_count p))) ∙ e in
           let y : true ≡ false = cc in
           absurd (true≢false y)
 
-  pub difference_in : Quiet C → (k : ℕ) {d : ℕ} → K.difference k ≡ some d → k < C.kind_count
+  pub difference_in : Quiet C → (k : ℕ) {d : ℕ} → K.difference k ≡ Some d → k < C.kind_count
   unfolding kinds_of link blank
   difference_in quiet k e = within quiet (difference_of C) (λ j z. rw z) k e
 
-  pub target_in : Quiet C → (k : ℕ) {t : ℕ} → K.rate_of k ≡ some t → k < C.kind_count
+  pub target_in : Quiet C → (k : ℕ) {t : ℕ} → K.rate_of k ≡ Some t → k < C.kind_count
   unfolding kinds_of link blank
   target_in quiet k e = within quiet (target_of C) (λ j z. rw z) k e
 
-  target_links : (k : ℕ) {t : ℕ} → K.rate_of k ≡ some t → target_of C k ≡ some t
+  target_links : (k : ℕ) {t : ℕ} → K.rate_of k ≡ Some t → target_of C k ≡ Some t
   unfolding kinds_of
   target_links k e = e
 
   -- the rate of t is one that names it
-  pub rate_names : (k t : ℕ) → K.rate t ≡ some k → K.rate_of k ≡ some t
+  pub rate_names : (k t : ℕ) → K.rate t ≡ Some k → K.rate_of k ≡ Some t
   unfolding kinds_of rate_among
   rate_names k t e = go (ltb t C.kind_count) refl
     where
-      go : (b : Bool) → ltb t C.kind_count ≡ b → target_of C k ≡ some t
+      go : (b : Bool) → ltb t C.kind_count ≡ b → target_of C k ≡ Some t
       go true p =
-          let f : first (λ j. meant t (target_of C j)) C.kind_count ≡ some k = sym (below_in C.kind_count none (rate_among C C.kind_count) t (ltb-true t C.kind_count p)) ∙ e in
+          let f : first (λ j. meant t (target_of C j)) C.kind_count ≡ Some k = sym (below_in C.kind_count None (rate_among C C.kind_count) t (ltb-true t C.kind_count p)) ∙ e in
           meant_is t (target_of C k) (first_passes (λ j. meant t (target_of C j)) C.kind_count f)
       go false p =
-          let f : none ≡ some k = sym (below_past C.kind_count none (rate_among C C.kind_count) t (ltb-false t C.kind_count p)) ∙ e in
+          let f : None ≡ Some k = sym (below_past C.kind_count None (rate_among C C.kind_count) t (ltb-false t C.kind_count p)) ∙ e in
           let z : true ≡ false = cc in
           absurd (true≢false z)
 
   -- ---- 13, 14
-  pub difference_tells : (k d : ℕ) → difference_rule C k ≡ given tt → K.difference k ≡ some d → IsDifference K k d × (K.difference d ≡ none)
+  pub difference_tells : (k d : ℕ) → difference_rule C k ≡ given tt → K.difference k ≡ Some d → IsDifference K k d × (K.difference d ≡ None)
   unfolding difference_rule kinds_of
   difference_tells k d e p =
       let l = link_some (C.kind k).difference p in
       let s = bind_given (called C k (C.kind k).difference) _ (declared_given (C.kind k).difference _ l.0 e) in
       let z : d ≡ s.0 = cc (l.1, called_given k _ s.1) in
       let t = test_given _ _ _ s.2 in
-      let n : link C (C.kind s.0).difference ≡ none = blank_link _ (not_true _ (refuse_given _ _ t.1)) in
+      let n : link C (C.kind s.0).difference ≡ None = blank_link _ (not_true _ (refuse_given _ _ t.1)) in
       (record { below = find_below _ l.1; dims = rw z (sym (same_dims_law _ _ (not_true _ t.0))) }, rw z n)
 
   -- ---- 15
-  linear_tells : (k : ℕ) → eqb (role C k) 0 ≡ true → (K.difference k ≡ none) × (is_difference C k ≡ false)
+  linear_tells : (k : ℕ) → eqb (role C k) 0 ≡ true → (K.difference k ≡ None) × (is_difference C k ≡ false)
   unfolding role kinds_of
   linear_tells k e = go (difference_of C k) refl (is_difference C k) refl
     where
-      go : (o : Option ℕ) → difference_of C k ≡ o → (t : Bool) → is_difference C k ≡ t → (difference_of C k ≡ none) × (is_difference C k ≡ false)
-      go none p false q = (p, q)
-      go none p true q = let z : false ≡ true = rw (p, q) at e in absurd (true≢false (sym z))
-      go (some d) p t q = let z : false ≡ true = rw p at e in absurd (true≢false (sym z))
+      go : (o : Option ℕ) → difference_of C k ≡ o → (t : Bool) → is_difference C k ≡ t → (difference_of C k ≡ None) × (is_difference C k ≡ false)
+      go None p false q = (p, q)
+      go None p true q = let z : false ≡ true = rw (p, q) at e in absurd (true≢false (sym z))
+      go (Some d) p t q = let z : false ≡ true = rw p at e in absurd (true≢false (sym z))
 
-  meant_self : (k : ℕ) {o : Option ℕ} → o ≡ some k → meant k o ≡ true
+  meant_self : (k : ℕ) {o : Option ℕ} → o ≡ Some k → meant k o ≡ true
   meant_self k e = rw e (eq-eqb k k refl)
 
   -- no kind of the catalog has it as its difference
-  pub no_difference : Quiet C → (k : ℕ) → is_difference C k ≡ false → (j : ℕ) → K.difference j ≡ some k → ⊥
+  pub no_difference : Quiet C → (k : ℕ) → is_difference C k ≡ false → (j : ℕ) → K.difference j ≡ Some k → ⊥
   unfolding is_difference kinds_of link blank
   no_difference quiet k e j p =
       true≢false (sym (meant_self k p) ∙ first_misses (λ i. meant k (difference_of C i)) C.kind_count j (some_false _ e) (within quiet (difference_of C) (λ i z. rw z) j p))
 
-  pub dimensionless_tells : (o : ℕ) → dimensionless_rule C ≡ given tt → K.dimensionless ≡ some o → IsDimensionless K o × (is_difference C o ≡ false)
+  pub dimensionless_tells : (o : ℕ) → dimensionless_rule C ≡ given tt → K.dimensionless ≡ Some o → IsDimensionless K o × (is_difference C o ≡ false)
   unfolding dimensionless_rule kinds_of
   dimensionless_tells o e p =
       let l = link_some C.dimensionless p in
       let s = bind_given (called C 0 C.dimensionless) _ (declared_given C.dimensionless _ l.0 e) in
       let z : s.0 ≡ o = cc (l.1, called_given 0 C.dimensionless s.1) in
-      let t : (eqb (role C s.0) 0 && same_dims (C.kind s.0).dims (some D.one)) ≡ true = not_true _ (refuse_given _ _ s.2) in
-      let u : (eqb (role C o) 0 && same_dims (C.kind o).dims (some D.one)) ≡ true = rw z at t in
+      let t : (eqb (role C s.0) 0 && same_dims (C.kind s.0).dims (Some D.one)) ≡ true = not_true _ (refuse_given _ _ s.2) in
+      let u : (eqb (role C o) 0 && same_dims (C.kind o).dims (Some D.one)) ≡ true = rw z at t in
       let n = linear_tells o (and_left (eqb (role C o) 0) _ u) in (
         record {
           below = find_below C.dimensionless l.1;
           linear = n.0;
-          dims = same_dims_law (C.kind o).dims (some D.one) (and_right (eqb (role C o) 0) _ u);
+          dims = same_dims_law (C.kind o).dims (Some D.one) (and_right (eqb (role C o) 0) _ u);
         },
         n.1,
       )
 
   -- ---- 16
-  pub time_tells : (t : ℕ) → time_rule C ≡ given tt → K.time ≡ some t → (point K t ≡ true) × (K.grade t ≡ 0)
+  pub time_tells : (t : ℕ) → time_rule C ≡ given tt → K.time ≡ Some t → (point K t ≡ true) × (K.grade t ≡ 0)
   unfolding time_rule kinds_of
   time_tells t e p =
       let l = link_some C.time p in
@@ -154,30 +155,30 @@ module _ (C : Catalog) where
       (and_left (point K t) _ v, eqb-true (C.kind t).grade 0 (and_right (point K t) _ v))
 
   -- ---- 17 to 21
-  aimed : (k s t d : ℕ) (a c : Dimensions) → s ≡ t → duration K ≡ some d → K.dims d ≡ some c → carries K (record { dims = (D.product a c).value; grade = K.grade k }) s ≡ true
-      → (e : ℕ) (b : Dimensions) → duration K ≡ some e → K.dims e ≡ some b → carries K (record { dims = (D.product a b).value; grade = K.grade k }) t ≡ true
+  aimed : (k s t d : ℕ) (a c : Dimensions) → s ≡ t → duration K ≡ Some d → K.dims d ≡ Some c → carries K (record { dims = D.or_one (D.product a c); grade = K.grade k }) s ≡ true
+      → (e : ℕ) (b : Dimensions) → duration K ≡ Some e → K.dims e ≡ Some b → carries K (record { dims = D.or_one (D.product a b); grade = K.grade k }) t ≡ true
   aimed k s t d a c z p q h e b u v = let y : d ≡ e = cc in let x : c ≡ b = cc in rw (z, x) at h
 
   -- the duration is there and resolved
   abbrev pub Timed : Type 0
-  Timed = (d : ℕ) × (b : Dimensions) × (duration K ≡ some d) × (K.dims d ≡ some b)
+  Timed = (d : ℕ) × (b : Dimensions) × (duration K ≡ Some d) × (K.dims d ≡ Some b)
 
-  pub rate_tells : (k t : ℕ) → k < C.kind_count → rate_rule C k ≡ given tt → K.rate_of k ≡ some t → IsRate K k t × Timed × (rate_among C k t ≡ none)
+  pub rate_tells : (k t : ℕ) → k < C.kind_count → rate_rule C k ≡ given tt → K.rate_of k ≡ Some t → IsRate K k t × Timed × (rate_among C k t ≡ None)
   unfolding rate_rule
   rate_tells k t b e p =
       let l = link_some (C.kind k).rate_of (target_links k p) in
       let s = bind_given (called C k (C.kind k).rate_of) _ (declared_given (C.kind k).rate_of _ l.0 e) in
       let z : s.0 ≡ t = cc (l.1, called_given k (C.kind k).rate_of s.1) in
       let d = bind_given (needed (duration K) (NoTimeKind k s.0)) _ s.2 in
-      let du : duration K ≡ some d.0 = needed_given (duration K) _ d.1 in
+      let du : duration K ≡ Some d.0 = needed_given (duration K) _ d.1 in
       let pk = test_given (point K k) _ _ d.2 in
       let pt = test_given (point K s.0) _ _ pk.1 in
       let a = bind_given (operand K k) _ pt.1 in
       let g = then_given (operand K s.0) _ a.2 in
       let c = bind_given (operand K d.0) _ g.2 in
-      let m = test_given (not (carries K (record { dims = (D.product a.0 c.0).value; grade = K.grade k }) s.0)) _ _ c.2 in
-      let n : K.difference s.0 ≡ none = some_false _ pt.0 in
-      let f : rate_among C k s.0 ≡ none = found_given (rate_among C k s.0) _ m.1 in (
+      let m = test_given (not (carries K (record { dims = (D.or_one (D.product a.0 c.0)); grade = K.grade k }) s.0)) _ _ c.2 in
+      let n : K.difference s.0 ≡ None = some_false _ pt.0 in
+      let f : rate_among C k s.0 ≡ None = found_given (rate_among C k s.0) _ m.1 in (
         record {
           below = (in_count b, in_count (find_below (C.kind k).rate_of l.1));
           no_points = (some_false _ pk.0, rw z at n);
@@ -190,6 +191,6 @@ module _ (C : Catalog) where
       )
 
   -- 21: a target has one rate
-  pub one_earlier : (j k t : ℕ) → rate_among C k t ≡ none → j < k → K.rate_of j ≡ some t → ⊥
+  pub one_earlier : (j k t : ℕ) → rate_among C k t ≡ None → j < k → K.rate_of j ≡ Some t → ⊥
   unfolding rate_among kinds_of
   one_earlier j k t e h p = true≢false (sym (meant_self t p) ∙ first_misses (λ i. meant t (target_of C i)) k j e h)

@@ -3,7 +3,8 @@ use Prim.Native.Nat.{ℕ, ◌+◌, ◌-◌, ◌*◌, ◌/◌, ◌%◌, ◌<◌, 
 use mathlib.Core.Path.{◌≡◌, refl}
 use mathlib.Core.Bool.{Bool, true, false, not, ◌||◌, true≢false}
 use mathlib.Core.List.{List}
-use mathlib.Core.Option.{Option, some, none}
+use Rattle.std.specs.declared.option.Option.{Option}
+use Rattle.std.specs.declared.option.Option.TheVariants.{None, Some}
 use native.Mathlib.Omega.{arith}
 use lib.Dec.{eqb, ltb, leb}
 use lib.ListN.{length}
@@ -35,12 +36,12 @@ long s e =
     let m = eqb-true (length s % 512) 0 (not_true _ b.1) in
     omega arith
 
-first_given : (wrong : ℕ → Bool) (n : ℕ) (x : ℕ → Refusal) {u : Unit {0}} → refuse_first wrong n x ≡ given u → first wrong n ≡ none
+first_given : (wrong : ℕ → Bool) (n : ℕ) (x : ℕ → Refusal) {u : Unit {0}} → refuse_first wrong n x ≡ given u → first wrong n ≡ None
 first_given wrong n x e = go (first wrong n) refl
   where
-    go : (o : Option ℕ) → first wrong n ≡ o → first wrong n ≡ none
-    go none p = p
-    go (some i) p = let z : true ≡ false = cc in absurd (true≢false z)
+    go : (o : Option ℕ) → first wrong n ≡ o → first wrong n ≡ None
+    go None p = p
+    go (Some i) p = let z : true ≡ false = cc in absurd (true≢false z)
 
 pub lent_tells : (s : List ℕ) (room : ℕ) {u : Unit {0}} → lent_check s room ≡ given u → LaidOut s
 unfolding lent_check length_check readable

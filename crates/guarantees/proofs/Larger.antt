@@ -4,7 +4,8 @@ use Prim.Native.Nat.{ℕ}
 use mathlib.Core.Path.{◌≡◌, refl, sym, ◌∙◌}
 use mathlib.Core.Bool.{false, true≢false}
 use mathlib.Core.List.{List, [], ◌∷◌}
-use mathlib.Core.Option.{Option, some, none}
+use Rattle.std.specs.declared.option.Option.{Option}
+use Rattle.std.specs.declared.option.Option.TheVariants.{None, Some}
 use lib.IntN.{pos, neg_ℤ}
 use Rattle.laws.specs.Options.{found}
 use Rattle.laws.specs.Out.{given, refused, ◌>>=◌, mapped, known}
@@ -26,9 +27,9 @@ module _ (K : Kinds) (small large : Rows) (more : Extends small large) where
     where
       go : (s : Option ℕ) → small l op r ≡ s → (t : Option ℕ) → large l op r ≡ t
           → GrownOut (lifts large) (known s (refused (UnresolvedTwin l op r ks))) (known t (refused (UnresolvedTwin l op r ks)))
-      go (some k) p t q = rw (sym q ∙ more l op r k p)
-      go none p (some m) q = rw q (λ e. absurd (true≢false e), λ e. (m, refl))
-      go none p none q = rw q (λ e. refl, λ e. absurd (true≢false (sym e)))
+      go (Some k) p t q = rw (sym q ∙ more l op r k p)
+      go None p (Some m) q = rw q (λ e. absurd (true≢false e), λ e. (m, refl))
+      go None p None q = rw q (λ e. refl, λ e. absurd (true≢false (sym e)))
 
   settle_grown : (o : List ℕ) (x : Refusal) (f g : List ℕ → Answer ℕ) → lifts large x ≡ false → ((ks : List ℕ) → GrownOut (lifts large) (f ks) (g ks))
       → GrownOut (lifts large) (settle o (refused x) given f) (settle o (refused x) given g)
@@ -69,7 +70,7 @@ module _ (K : Kinds) (small large : Rows) (more : Extends small large) where
       let m = with_number K b k (scaled K 5 k) in
       stays large (mapped Kind m) (calm_mapped large Kind m (by_number_calm large K b k))
   binary_grown b Number (Kind k) =
-      let m = with_number K b k (power K 5 k (some (F.ratio (neg_ℤ (pos 1)) 1))) in
+      let m = with_number K b k (power K 5 k (Some (F.ratio (neg_ℤ (pos 1)) 1))) in
       stays large (mapped Kind m) (calm_mapped large Kind m (number_by_calm large K b k (F.ratio (neg_ℤ (pos 1)) 1)))
 
   pub grows : Grows (lifts large) (terms K small) (terms K large)
@@ -87,5 +88,5 @@ module _ (K : Kinds) (small large : Rows) (more : Extends small large) where
   formula_grown toks = go (malformed_at toks)
     where
       go : (o : Option ℕ) → Grown (lifts large) (found o malformed (walk (terms K small) toks 0 [])) (found o malformed (walk (terms K large) toks 0 []))
-      go none = walk_grown (lifts large) (terms K small) (terms K large) grows toks 0 []
-      go (some p) = refl
+      go None = walk_grown (lifts large) (terms K small) (terms K large) grows toks 0 []
+      go (Some p) = refl

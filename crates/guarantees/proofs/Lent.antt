@@ -3,7 +3,7 @@
 use Prim.Native.Nat.{ℕ, ◌<◌, ◌≤◌}
 use mathlib.Core.Path.{◌≡◌, refl, sym, ◌∙◌, ap, subst}
 use mathlib.Core.List.{List}
-use mathlib.Core.Option.{some}
+use Rattle.std.specs.declared.option.Option.TheVariants.{Some}
 use lib.ListN.{length}
 use borrow.Author.Tests.{le-ltb, lt-ltb}
 use Rattle.laws.specs.Out.{given, refused}
@@ -86,7 +86,7 @@ module _ (s old : List ℕ) (bytes : Bytes s) (c : Compiled) (e : compile_image 
     call_is tokens = rw (roomy_fine twins enough, tabled_fine, table_kinds, table_rows)
 
     -- and a lone product is the rules' product
-    op_known : (op : ProductOp) → rule.op_by (code_of op) ≡ some (rule.multiplied op)
+    op_known : (op : ProductOp) → rule.op_by (code_of op) ≡ Some (rule.multiplied op)
     unfolding rule.op_by
     op_known Mul = refl
     op_known Div = refl

@@ -5,7 +5,8 @@ use mathlib.Core.Path.{◌≡◌, refl, ◌∙◌, ap}
 use mathlib.Core.Bool.{Bool, true, false, cond, true≢false}
 use mathlib.Core.List.{List, [], ◌∷◌, map}
 use mathlib.Core.Logic.{◌↔◌}
-use mathlib.Core.Option.{Option, some, none}
+use Rattle.std.specs.declared.option.Option.{Option}
+use Rattle.std.specs.declared.option.Option.TheVariants.{None, Some}
 use lib.Dec.{ltb}
 use lib.ListN.{length, length-map}
 use Rattle.laws.specs.Out.{Out, given, refused}
@@ -61,15 +62,15 @@ module _ {E A : Type 0} (M : Machine E A) where
       go ih (stop x) q = let z : stopped at x ≡ malformed p = rw (walk, q) at e in cc
       go ih bad q = let z : malformed at ≡ malformed p = rw (walk, q) at e in let z' : at ≡ p = cc in rw (walk, step_bad mark M shape t s q) (ap malformed z')
 
-pub malformed_exactly : (K : Kinds) (rows : Rows) (toks : List Token) (p : ℕ) → (formula K rows toks ≡ malformed p) ↔ (malformed_at toks ≡ some p)
+pub malformed_exactly : (K : Kinds) (rows : Rows) (toks : List Token) (p : ℕ) → (formula K rows toks ≡ malformed p) ↔ (malformed_at toks ≡ Some p)
 unfolding formula malformed_at
 malformed_exactly K rows toks p = (λ e. there e, λ e. rw e)
   where
-    there : formula K rows toks ≡ malformed p → malformed_at toks ≡ some p
+    there : formula K rows toks ≡ malformed p → malformed_at toks ≡ Some p
     there e = go (malformed_at toks) refl
       where
-        go : (o : Option ℕ) → malformed_at toks ≡ o → malformed_at toks ≡ some p
-        go (some q) h = let z : malformed q ≡ malformed p = rw h at e in let w : q ≡ p = cc in h ∙ ap some w
-        go none h =
+        go : (o : Option ℕ) → malformed_at toks ≡ o → malformed_at toks ≡ Some p
+        go (Some q) h = let z : malformed q ≡ malformed p = rw h at e in let w : q ≡ p = cc in h ∙ ap Some w
+        go None h =
             let z : walk (terms K rows) toks 0 [] ≡ malformed p = rw h at e in
             rw (malformed_at, walk_malformed (terms K rows) toks 0 p [] z)

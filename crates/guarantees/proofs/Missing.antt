@@ -13,12 +13,12 @@ use Rattle.laws.proofs.Cases.{and_left, and_right}
 use Rattle.dimension.specs.Integer.{eq_z, up, twos}
 use Rattle.dimension.specs.Fraction as F
 use Rattle.dimension.specs.Dimension as D
-use Rattle.dimension.specs.Dimension.{fine, exponent, Sound}
+use Rattle.dimension.specs.Dimension.{exponent, Sound}
 use Rattle.dimension.specs.Grade as G
 use Rattle.dimension.specs.declared.rational.Rational.{Rational}
 use Rattle.dimension.specs.declared.dimensions.Dimensions.{Dimensions}
 use Rattle.dimension.specs.declared.grade.ProductOp.TheVariants.{Mul, Div}
-use Rattle.dimension.specs.declared.grade.Grade.TheVariants.{Single, Absent}
+use Rattle.std.specs.declared.option.Option.TheVariants.{None, Some}
 use Rattle.rules.specs.Catalog.{or_zero}
 use Rattle.dimension.proofs.ExponentLaws as E
 use Rattle.dimension.proofs.DimensionLaws as L
@@ -58,7 +58,7 @@ one_at : (k : ℕ) → k < 12 → exponent D.one k ≡ F.zero
 one_at k h = get_or-replicate 12 k F.zero F.zero h
 
 -- a power of exponent zero has dimension one, in lowest terms or not
-pub power_none : (a : Dimensions) (e : Rational) → Sound a → F.is_zero e ≡ true → D.power a e ≡ fine D.one
+pub power_none : (a : Dimensions) (e : Rational) → Sound a → F.is_zero e ≡ true → D.power a e ≡ Some D.one
 power_none a e h z =
     let t = zero_value e z in
     L.power_of a e h.twelve D.one (L.one_sound).twelve
@@ -68,30 +68,30 @@ power_none a e h z =
     across x p = zero-*ℤ (pos (x.den * e.den)) ∙ sym (ap (λ (z : ℤ). x.num *ℤ z *ℤ pos 1) p ∙ ap (λ (z : ℤ). z *ℤ pos 1) (*ℤ-zero x.num) ∙ zero-*ℤ (pos 1))
 
 -- every power of dimension one has dimension one
-pub one_power : (e : Rational) → 0 < e.den → D.power D.one e ≡ fine D.one
+pub one_power : (e : Rational) → 0 < e.den → D.power D.one e ≡ Some D.one
 one_power e h =
     L.power_of D.one e (L.one_sound).twelve D.one (L.one_sound).twelve
     (λ k l. rw (one_at k l) (E.product_comm F.zero e ∙ E.product_zero e h))
 
 -- ---- grades
-single_same : (a b : ℕ) → Single a ≡ Single b → a ≡ b
+single_same : (a b : ℕ) → Some a ≡ Some b → a ≡ b
 single_same a b e = cc
 
 -- times a scalar, on the right and on the left
-pub by_scalar : (a b g : ℕ) → a ≤ 3 → b ≡ 0 → G.product Mul a b ≡ Single g → a ≡ g
+pub by_scalar : (a b g : ℕ) → a ≤ 3 → b ≡ 0 → G.product Mul a b ≡ Some g → a ≡ g
 by_scalar a b g h p e = single_same a g (sym (R.product_scalar a h) ∙ ap (G.product Mul a) (sym p) ∙ e)
 
-pub scalar_by : (a b g : ℕ) → b ≤ 3 → a ≡ 0 → G.product Mul a b ≡ Single g → b ≡ g
+pub scalar_by : (a b g : ℕ) → b ≤ 3 → a ≡ 0 → G.product Mul a b ≡ Some g → b ≡ g
 scalar_by a b g h p e = by_scalar b a g h p (R.product_comm Mul b a (λ q. absurd (mul_div q)) ∙ e)
   where
     mul_div : Mul ≡ Div → ⊥
     mul_div q = let z : true ≡ false = cc in true≢false z
 
 -- over a scalar, and over nothing else
-pub over_scalar : (a b g : ℕ) → a ≤ 3 → b ≤ 3 → G.product Div a b ≡ Single g → (a ≡ g) × (b ≡ 0)
+pub over_scalar : (a b g : ℕ) → a ≤ 3 → b ≤ 3 → G.product Div a b ≡ Some g → (a ≡ g) × (b ≡ 0)
 over_scalar a b g h k e = go (eqb b 0) refl (leb a 3) refl (sym (R.product_rule Div a b h k) ∙ e)
   where
-    go : (t : Bool) → eqb b 0 ≡ t → (u : Bool) → leb a 3 ≡ u → G.rule Div a b ≡ Single g → (a ≡ g) × (b ≡ 0)
+    go : (t : Bool) → eqb b 0 ≡ t → (u : Bool) → leb a 3 ≡ u → G.rule Div a b ≡ Some g → (a ≡ g) × (b ≡ 0)
     go true p true q f = (single_same a g (rw (p, q) at f), eqb-true b 0 p)
-    go true p false q f = let y : Absent ≡ Single g = rw (p, q) at f in let z : true ≡ false = cc in absurd (true≢false z)
-    go false p u q f = let y : Absent ≡ Single g = rw p at f in let z : true ≡ false = cc in absurd (true≢false z)
+    go true p false q f = let y : None ≡ Some g = rw (p, q) at f in let z : true ≡ false = cc in absurd (true≢false z)
+    go false p u q f = let y : None ≡ Some g = rw p at f in let z : true ≡ false = cc in absurd (true≢false z)

@@ -3,7 +3,7 @@ use Prim.Native.Nat.{ℕ, zero, suc, ◌+◌, ◌-◌, ◌*◌, ◌<◌, ◌≤�
 use mathlib.Core.Path.{◌≡◌, refl, sym, ◌∙◌}
 use mathlib.Core.Bool.{Bool, true, false, not, ◌&&◌, true≢false}
 use mathlib.Core.List.{List, [], ◌++◌}
-use mathlib.Core.Option.{none}
+use Rattle.std.specs.declared.option.Option.TheVariants.{None}
 use native.Mathlib.Nat.{not-suc-le-zero, le_of_suc-le-suc}
 use native.Mathlib.Decide.{dec_le}
 use native.Mathlib.Omega.{arith}
@@ -27,7 +27,7 @@ pub record First (s : List ℕ) (i : ℕ) : Type 0 where
   pub op : ProductOp
   pub right : ℕ
   pub is : is_row s left op right i ≡ true
-  pub none_before : first (is_row s left op right) i ≡ none
+  pub none_before : first (is_row s left op right) i ≡ None
 
 all_three : (a b c d e f : ℕ) → a ≡ b → c ≡ d → e ≡ f → (eqb a b && eqb c d && eqb e f) ≡ true
 all_three a b c d e f p q r = rw (eq-eqb a b p, eq-eqb c d q, eq-eqb e f r)
@@ -60,11 +60,11 @@ module _ (s : List ℕ) (i : ℕ) (h : First s i) where
 module _ (C : Catalog) (n : ℕ) (rows : (i : ℕ) → i < n → Accepted C i) (a : Accepted C n) where
   -- none of the earlier entries is for what an accepted row is for
   module _ (m : ℕ) (four : length (entries_in C n) ≡ 4 * m) where
-    unmet : (l : ℕ) (op : ProductOp) (r : ℕ) → row_among C n l op r ≡ none → first (is_row (entries_in C n) l op r) m ≡ none
+    unmet : (l : ℕ) (op : ProductOp) (r : ℕ) → row_among C n l op r ≡ None → first (is_row (entries_in C n) l op r) m ≡ None
     unmet l op r e =
         let g = agree C l op r n rows in
         let z : g.0 ≡ m = same g.0 m (sym g.1 ∙ four) in
-        let w : Agrees C l op r none (entries_in C n) g.0 = rw e at g.2 in
+        let w : Agrees C l op r None (entries_in C n) g.0 = rw e at g.2 in
         rw (← z) w
       where
         same : (x y : ℕ) → 4 * x ≡ 4 * y → x ≡ y

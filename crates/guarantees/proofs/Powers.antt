@@ -3,7 +3,8 @@ use Prim.Native.Nat.{ℕ, ◌<◌}
 use mathlib.Core.Path.{◌≡◌, refl, ◌∙◌, ap}
 use mathlib.Core.Bool.{Bool, true, false, cond, ◌||◌, true≢false}
 use mathlib.Core.List.{List, [], ◌∷◌}
-use mathlib.Core.Option.{Option, some, none}
+use Rattle.std.specs.declared.option.Option.{Option}
+use Rattle.std.specs.declared.option.Option.TheVariants.{None, Some}
 use lib.Dec.{eqb}
 use borrow.Author.Tests.{eqb-true}
 use Rattle.laws.specs.Out.{given}
@@ -11,7 +12,6 @@ use Rattle.dimension.specs.Fraction as F
 use Rattle.dimension.specs.Dimension as D
 use Rattle.dimension.specs.declared.rational.Rational.{Rational}
 use Rattle.dimension.specs.declared.dimensions.Dimensions.{Dimensions}
-use Rattle.dimension.specs.declared.dimensions.Outcome.{Outcome}
 use Rattle.dimension.proofs.DimensionLaws as L
 use Rattle.rules.specs.Kinds.{Kinds, Rows, Graded, fits, candidates}
 use Rattle.rules.specs.Arithmetic.{operand, scaled, neutral_power, raised, power}
@@ -26,20 +26,20 @@ never e = absurd (true≢false e)
 -- kind j has the dimensions of a to the power e, and is a scalar where the dimensionless kind is
 pub record Power (K : Kinds) (a : Dimensions) (e : Rational) (j : ℕ) : Type 0 where
   pub value : Dimensions
-  pub answers : D.power a e ≡ D.fine value
-  pub dims : K.dims j ≡ some value
+  pub answers : D.power a e ≡ Some value
+  pub dims : K.dims j ≡ Some value
   pub grade : Scalars K → K.grade j ≡ 0
 
 module _ (K : Kinds) (rows : Rows) (c : Guaranteed K rows) where
   -- exponent zero, or the dimensionless kind
-  neutral_power_law : (e : Rational) (k j : ℕ) (a : Dimensions) → 0 < e.den → K.dims k ≡ some a → neutral_power K k e ≡ some j → Power K a e j
+  neutral_power_law : (e : Rational) (k j : ℕ) (a : Dimensions) → 0 < e.den → K.dims k ≡ Some a → neutral_power K k e ≡ Some j → Power K a e j
   unfolding neutral_power
   neutral_power_law e k j a h q f = go K.dimensionless refl
     where
-      one : (o : ℕ) → K.dimensionless ≡ some o → o ≡ j → D.power a e ≡ D.fine D.one → Power K a e j
+      one : (o : ℕ) → K.dimensionless ≡ Some o → o ≡ j → D.power a e ≡ Some D.one → Power K a e j
       one o p z y = rw (← z) (record { value = D.one; answers = y; dims = (c.dimensionless o p).dims; grade = λ s. s.dimensionless o p })
 
-      at : (o : ℕ) → K.dimensionless ≡ some o → (t : Bool) → F.is_zero e ≡ t → (v : Bool) → eqb k o ≡ v → cond (t || v) (some o) none ≡ some j → Power K a e j
+      at : (o : ℕ) → K.dimensionless ≡ Some o → (t : Bool) → F.is_zero e ≡ t → (v : Bool) → eqb k o ≡ v → cond (t || v) (Some o) None ≡ Some j → Power K a e j
       at o p true t v u g = let z : o ≡ j = cc in one o p z (power_none a e (L.declared_sound a (c.declared k a q)) t)
       at o p false t true u g =
           let w : a ≡ D.one = cc (eqb-true k o u, (c.dimensionless o p).dims) in
@@ -48,43 +48,40 @@ module _ (K : Kinds) (rows : Rows) (c : Guaranteed K rows) where
       at o p false t false u g = let z : true ≡ false = cc in never z
 
       go : (o : Option ℕ) → K.dimensionless ≡ o → Power K a e j
-      go none p = let z : true ≡ false = cc in never z
-      go (some o) p = at o p (F.is_zero e) refl (eqb k o) refl (rw p at f)
+      go None p = let z : true ≡ false = cc in never z
+      go (Some o) p = at o p (F.is_zero e) refl (eqb k o) refl (rw p at f)
 
-  within : (o : Outcome) → o.over ≡ false → o ≡ D.fine o.value
-  within o p = ap (λ (t : Bool). record { over = t; value = o.value }) p
-
-  abbrev to : Dimensions → Rational → Graded
-  to a e = record { dims = (D.power a e).value; grade = 0 }
+  abbrev to : Option Dimensions → Graded
+  to w = record { dims = D.or_one w; grade = 0 }
 
   abbrev Raised : Rational → ℕ → ℕ → Type 0
-  Raised e k j = (a : Dimensions) × (K.dims k ≡ some a) × Power K a e j
+  Raised e k j = (a : Dimensions) × (K.dims k ≡ Some a) × Power K a e j
 
   pub raised_power : (e : Rational) (k j : ℕ) → 0 < e.den → raised K k e ≡ given j → Raised e k j
   unfolding raised operand
   raised_power e k j h x = go (eqb (K.grade k) 0) refl (K.dims k) refl
     where
-      fit : (a : Dimensions) → K.dims k ≡ some a → eqb (K.grade k) 0 ≡ true → (w : Bool) → (D.power a e).over ≡ w → (f : Option ℕ) → neutral_power K k e ≡ f
-          → (ks : List ℕ) → candidates K (to a e) ≡ ks → Raised e k j
-      fit a q g true w f v ks u = let z : true ≡ false = cc in never z
-      fit a q g false w (some m) v ks u = let z : m ≡ j = cc in (a, q, neutral_power_law e k j a h q (v ∙ ap some z))
-      fit a q g false w none v [] u = let z : true ≡ false = cc in never z
-      fit a q g false w none v (m ∷ []) u =
+      fit : (a : Dimensions) → K.dims k ≡ Some a → eqb (K.grade k) 0 ≡ true → (w : Option Dimensions) → D.power a e ≡ w → (f : Option ℕ) → neutral_power K k e ≡ f
+          → (ks : List ℕ) → candidates K (to w) ≡ ks → Raised e k j
+      fit a q g None w f v ks u = let z : true ≡ false = cc in never z
+      fit a q g (Some b) w (Some m) v ks u = let z : m ≡ j = cc in (a, q, neutral_power_law e k j a h q (v ∙ ap Some z))
+      fit a q g (Some b) w None v [] u = let z : true ≡ false = cc in never z
+      fit a q g (Some b) w None v (m ∷ []) u =
           let z : m ≡ j = cc in
-          let y = (fits_tells K (to a e) m (head_passes (fits K (to a e)) K.count m [] u).0).0 in
-          (a, q, rw (← z) (record { value = (D.power a e).value; answers = within (D.power a e) w; dims = y.dims; grade = λ s. y.grade }))
-      fit a q g false w none v (m ∷ i ∷ ks) u = let z : true ≡ false = cc in never z
+          let y = (fits_tells K (to (Some b)) m (head_passes (fits K (to (Some b))) K.count m [] u).0).0 in
+          (a, q, rw (← z) (record { value = b; answers = w; dims = y.dims; grade = λ s. y.grade }))
+      fit a q g (Some b) w None v (m ∷ i ∷ ks) u = let z : true ≡ false = cc in never z
 
       go : (t : Bool) → eqb (K.grade k) 0 ≡ t → (u : Option Dimensions) → K.dims k ≡ u → Raised e k j
       go false g u q = let z : true ≡ false = cc in never z
-      go true g none q = let z : true ≡ false = cc in never z
-      go true g (some a) q = fit a q g (D.power a e).over refl (neutral_power K k e) refl (candidates K (to a e)) refl
+      go true g None q = let z : true ≡ false = cc in never z
+      go true g (Some a) q = fit a q g (D.power a e) refl (neutral_power K k e) refl (candidates K (to (D.power a e))) refl
 
   -- "exponent one gives the kind", and any other raises it
-  pub answered_power : (code k j : ℕ) (e : Rational) → 0 < e.den → F.is_one e ≡ false → power K code k (some e) ≡ given j → Raised e k j
+  pub answered_power : (code k j : ℕ) (e : Rational) → 0 < e.den → F.is_one e ≡ false → power K code k (Some e) ≡ given j → Raised e k j
   unfolding power scaled
   answered_power code k j e h o x = go (K.difference k) refl
     where
       go : (d : Option ℕ) → K.difference k ≡ d → Raised e k j
-      go (some d) p = let z : true ≡ false = cc in never z
-      go none p = raised_power e k j h (rw (p, o) at x)
+      go (Some d) p = let z : true ≡ false = cc in never z
+      go None p = raised_power e k j h (rw (p, o) at x)

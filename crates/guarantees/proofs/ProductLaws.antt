@@ -3,7 +3,8 @@ use Prim.Native.Nat.{ℕ, ◌<◌, ◌≤◌}
 use mathlib.Core.Path.{◌≡◌, refl, sym, ◌∙◌, ap}
 use mathlib.Core.Bool.{Bool, true, false, cond, true≢false}
 use mathlib.Core.List.{List, [], ◌∷◌}
-use mathlib.Core.Option.{Option, some, none}
+use Rattle.std.specs.declared.option.Option.{Option}
+use Rattle.std.specs.declared.option.Option.TheVariants.{None, Some}
 use native.Mathlib.Omega.{arith}
 use lib.Dec.{eqb}
 use lib.ListN.{length, get_or}
@@ -30,65 +31,65 @@ product_reads K rows other l op r e = rw e
 -- ---- a product's answer is a kind in range
 -- every kind that another, a row or the header names is one of K's
 pub record Within (K : Kinds) (rows : Rows) : Type 0 where
-  pub difference : (k d : ℕ) → K.difference k ≡ some d → d < K.count
-  pub rate_of : (k t : ℕ) → K.rate_of k ≡ some t → t < K.count
-  pub rate : (t k : ℕ) → K.rate t ≡ some k → k < K.count
-  pub dimensionless : (o : ℕ) → K.dimensionless ≡ some o → o < K.count
-  pub row : (l : ℕ) (op : ProductOp) (r k : ℕ) → rows l op r ≡ some k → k < K.count
+  pub difference : (k d : ℕ) → K.difference k ≡ Some d → d < K.count
+  pub rate_of : (k t : ℕ) → K.rate_of k ≡ Some t → t < K.count
+  pub rate : (t k : ℕ) → K.rate t ≡ Some k → k < K.count
+  pub dimensionless : (o : ℕ) → K.dimensionless ≡ Some o → o < K.count
+  pub row : (l : ℕ) (op : ProductOp) (r k : ℕ) → rows l op r ≡ Some k → k < K.count
 
 module _ (K : Kinds) (rows : Rows) (w : Within K rows) (l r k : ℕ) (hl : l < K.count) (hr : r < K.count) where
-  never : none ≡ some k → k < K.count
+  never : None ≡ Some k → k < K.count
   never e = let z : true ≡ false = cc in absurd (true≢false z)
 
   -- one of two, or none
-  chosen : (s t : Bool) (a b : Option ℕ) → (a ≡ some k → k < K.count) → (b ≡ some k → k < K.count) → cond s a (cond t b none) ≡ some k → k < K.count
+  chosen : (s t : Bool) (a b : Option ℕ) → (a ≡ Some k → k < K.count) → (b ≡ Some k → k < K.count) → cond s a (cond t b None) ≡ Some k → k < K.count
   chosen true t a b f g e = f e
   chosen false true a b f g e = g e
   chosen false false a b f g e = never e
 
-  itself : (m : ℕ) → m < K.count → some m ≡ some k → k < K.count
+  itself : (m : ℕ) → m < K.count → Some m ≡ Some k → k < K.count
   itself m h e = let z : m ≡ k = cc in rw (← z) h
 
-  neutral_below : (op : ProductOp) (o : ℕ) → K.dimensionless ≡ some o → neutral_by op o l r ≡ some k → k < K.count
+  neutral_below : (op : ProductOp) (o : ℕ) → K.dimensionless ≡ Some o → neutral_by op o l r ≡ Some k → k < K.count
   unfolding neutral_by
-  neutral_below Mul o p e = chosen (eqb r o) (eqb l o) (some l) (some r) (itself l hl) (itself r hr) e
-  neutral_below Div o p e = chosen (eqb r o) (eqb l r) (some l) (some o) (itself l hl) (itself o (w.dimensionless o p)) e
+  neutral_below Mul o p e = chosen (eqb r o) (eqb l o) (Some l) (Some r) (itself l hl) (itself r hr) e
+  neutral_below Div o p e = chosen (eqb r o) (eqb l r) (Some l) (Some o) (itself l hl) (itself o (w.dimensionless o p)) e
   neutral_below Dot o p e = never e
   neutral_below Wedge o p e = never e
 
-  rated_below : (op : ProductOp) (d : ℕ) → rated_by K op d l r ≡ some k → k < K.count
+  rated_below : (op : ProductOp) (d : ℕ) → rated_by K op d l r ≡ Some k → k < K.count
   unfolding rated_by
   rated_below Mul d e = chosen (eqb r d) (eqb l d) (K.rate_of l) (K.rate_of r) (w.rate_of l k) (w.rate_of r k) e
-  rated_below Div d e = chosen (eqb r d) false (K.rate l) none (w.rate l k) never e
+  rated_below Div d e = chosen (eqb r d) false (K.rate l) None (w.rate l k) never e
   rated_below Dot d e = never e
   rated_below Wedge d e = never e
 
-  neutral_in : (op : ProductOp) → neutral K l op r ≡ some k → k < K.count
+  neutral_in : (op : ProductOp) → neutral K l op r ≡ Some k → k < K.count
   unfolding neutral
   neutral_in op e = go K.dimensionless refl
     where
       go : (o : Option ℕ) → K.dimensionless ≡ o → k < K.count
-      go none p = never (rw p at e)
-      go (some o) p = neutral_below op o p (rw p at e)
+      go None p = never (rw p at e)
+      go (Some o) p = neutral_below op o p (rw p at e)
 
-  rated_in : (op : ProductOp) → rated K l op r ≡ some k → k < K.count
+  rated_in : (op : ProductOp) → rated K l op r ≡ Some k → k < K.count
   unfolding rated
   rated_in op e = go (duration K) refl
     where
       go : (o : Option ℕ) → duration K ≡ o → k < K.count
-      go none p = never (rw p at e)
-      go (some d) p = rated_below op d (rw p at e)
+      go None p = never (rw p at e)
+      go (Some d) p = rated_below op d (rw p at e)
 
   resolve_in : (op : ProductOp) (x : Graded) → resolve K l op r x ≡ k ∷ [] → k < K.count
   unfolding resolve
   resolve_in op x e = go (neutral K l op r) refl (rated K l op r) refl (candidates K x) refl
     where
       go : (n : Option ℕ) → neutral K l op r ≡ n → (t : Option ℕ) → rated K l op r ≡ t → (ks : List ℕ) → candidates K x ≡ ks → k < K.count
-      go (some m) p t q ks u = let y : m ≡ k = cc in neutral_in op (p ∙ ap some y)
-      go none p (some m) q ks u = let y : m ≡ k = cc in rated_in op (q ∙ ap some y)
-      go none p none q [] u = let y : true ≡ false = cc in absurd (true≢false y)
-      go none p none q (m ∷ []) u = let y : m ≡ k = cc in (head_passes (fits K x) K.count k [] (u ∙ ap (λ (j : ℕ). j ∷ []) y)).1
-      go none p none q (m ∷ n ∷ ks) u = let y : true ≡ false = cc in absurd (true≢false y)
+      go (Some m) p t q ks u = let y : m ≡ k = cc in neutral_in op (p ∙ ap Some y)
+      go None p (Some m) q ks u = let y : m ≡ k = cc in rated_in op (q ∙ ap Some y)
+      go None p None q [] u = let y : true ≡ false = cc in absurd (true≢false y)
+      go None p None q (m ∷ []) u = let y : m ≡ k = cc in (head_passes (fits K x) K.count k [] (u ∙ ap (λ (j : ℕ). j ∷ []) y)).1
+      go None p None q (m ∷ n ∷ ks) u = let y : true ≡ false = cc in absurd (true≢false y)
 
   pub product_in : (op : ProductOp) → product K rows l op r ≡ given k → k < K.count
   unfolding product
@@ -99,8 +100,8 @@ module _ (K : Kinds) (rows : Rows) (w : Within K rows) (l r k : ℕ) (hl : l < K
       go : (x : Graded) (o : List ℕ) → resolve K l op r x ≡ o → (v : Option ℕ) → rows l op r ≡ v
           → settle (resolve K l op r x) (refused (NoProductKind x)) given (λ ks. known (rows l op r) (refused (UnresolvedTwin l op r ks))) ≡ given k → k < K.count
       go x (m ∷ []) p v q e = let y : m ≡ k = cc in resolve_in op x (p ∙ ap (λ (j : ℕ). j ∷ []) y)
-      go x (m ∷ n ∷ ks) p (some j) q e = let y : j ≡ k = cc in w.row l op r k (q ∙ ap some y)
-      go x (m ∷ n ∷ ks) p none q e = let y : true ≡ false = cc in absurd (true≢false y)
+      go x (m ∷ n ∷ ks) p (Some j) q e = let y : j ≡ k = cc in w.row l op r k (q ∙ ap Some y)
+      go x (m ∷ n ∷ ks) p None q e = let y : true ≡ false = cc in absurd (true≢false y)
       go x [] p v q e = let y : true ≡ false = cc in absurd (true≢false y)
 
 -- ---- the twins are the kinds that fit, two at least
@@ -110,8 +111,8 @@ module _ (K : Kinds) (l : ℕ) (op : ProductOp) (r : ℕ) where
   resolve_twins x e = go (or_else (neutral K l op r) (rated K l op r)) e
     where
       go : (o : Option ℕ) → 2 ≤ length (or_fitting K o x) → or_fitting K o x ≡ candidates K x
-      go (some m) h = absurd (omega arith)
-      go none h = refl
+      go (Some m) h = absurd (omega arith)
+      go None h = refl
 
   pub product_twins : (rows : Rows) (a : ℕ) (o : ProductOp) (b : ℕ) (ks : List ℕ) → product K rows l op r ≡ refused (UnresolvedTwin a o b ks)
       → (x : Graded) × (derive K l op r ≡ given x) × (ks ≡ candidates K x) × (2 ≤ length ks)
@@ -122,8 +123,8 @@ module _ (K : Kinds) (l : ℕ) (op : ProductOp) (r : ℕ) where
           → (x : Graded) × (derive K l op r ≡ given x) × (ks ≡ candidates K x) × (2 ≤ length ks)
       at x d (k ∷ []) p v q = let z : true ≡ false = cc in absurd (true≢false z)
       at x d [] p v q = let z : true ≡ false = cc in absurd (true≢false z)
-      at x d (m ∷ j ∷ js) p (some k) q = let z : true ≡ false = cc in absurd (true≢false z)
-      at x d (m ∷ j ∷ js) p none q =
+      at x d (m ∷ j ∷ js) p (Some k) q = let z : true ≡ false = cc in absurd (true≢false z)
+      at x d (m ∷ j ∷ js) p None q =
           let z : resolve K l op r x ≡ ks = cc in
           let h : 2 ≤ length ks = rw (sym z ∙ p) (omega arith) in
           (x, d, sym z ∙ resolve_twins x (rw z h), h)
@@ -141,17 +142,17 @@ module _ (K : Kinds) (l : ℕ) (op : ProductOp) (r : ℕ) where
   twins_distinct rows a o b ks e = distinct ks (twins_ascend rows a o b ks e)
 
 -- ---- "25 never comes from a lack of kinds: a result that fits is itself found"
-module _ (K : Kinds) (l : ℕ) (op : ProductOp) (r : ℕ) (x : Graded) (k : ℕ) (b : k < K.count) (n : K.difference k ≡ none) (c : carries K x k ≡ true) where
+module _ (K : Kinds) (l : ℕ) (op : ProductOp) (r : ℕ) (x : Graded) (k : ℕ) (b : k < K.count) (n : K.difference k ≡ None) (c : carries K x k ≡ true) where
   pub result_found : resolve K l op r x ≡ [] → ⊥
   unfolding resolve
   result_found e = go (neutral K l op r) refl (rated K l op r) refl (candidates K x) refl
     where
       go : (o : Option ℕ) → neutral K l op r ≡ o → (t : Option ℕ) → rated K l op r ≡ t → (ks : List ℕ) → candidates K x ≡ ks → ⊥
-      go (some m) p t q ks u = let z : true ≡ false = cc in true≢false z
-      go none p (some m) q ks u = let z : true ≡ false = cc in true≢false z
-      go none p none q [] u = true≢false (sym (tells_fits K x k (carries_tells K x k c) n) ∙ none_passes (fits K x) K.count k u b)
-      go none p none q (m ∷ []) u = let z : true ≡ false = cc in true≢false z
-      go none p none q (m ∷ j ∷ ks) u = let z : true ≡ false = cc in true≢false z
+      go (Some m) p t q ks u = let z : true ≡ false = cc in true≢false z
+      go None p (Some m) q ks u = let z : true ≡ false = cc in true≢false z
+      go None p None q [] u = true≢false (sym (tells_fits K x k (carries_tells K x k c) n) ∙ none_passes (fits K x) K.count k u b)
+      go None p None q (m ∷ []) u = let z : true ≡ false = cc in true≢false z
+      go None p None q (m ∷ j ∷ ks) u = let z : true ≡ false = cc in true≢false z
 
   pub never_25 : (C : Catalog) (y : Graded) → several C (resolve K l op r x) x ≡ refused (InvalidOperationRule y) → ⊥
   never_25 C y e = go (resolve K l op r x) refl

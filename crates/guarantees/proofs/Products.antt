@@ -4,7 +4,8 @@ use mathlib.Core.Path.{◌≡◌, refl, sym, ◌∙◌, ap}
 use mathlib.Core.Bool.{Bool, true, false, true≢false}
 use mathlib.Core.List.{List, [], ◌∷◌}
 use mathlib.Core.Logic.{◌↔◌}
-use mathlib.Core.Option.{Option, some, none}
+use Rattle.std.specs.declared.option.Option.{Option}
+use Rattle.std.specs.declared.option.Option.TheVariants.{None, Some}
 use Rattle.laws.specs.Out.{given, refused, known}
 use Rattle.laws.proofs.Checks.{bind_given}
 use Rattle.dimension.specs.declared.dimensions.Dimensions.{Dimensions}
@@ -33,11 +34,11 @@ module _ (K : Kinds) (rows : Rows) (c : Guaranteed K rows) (s : Scalars K) (l : 
   resolve_is k e = go (neutral K l op r) refl (rated K l op r) refl (candidates K x) refl
     where
       go : (n : Option ℕ) → neutral K l op r ≡ n → (t : Option ℕ) → rated K l op r ≡ t → (ks : List ℕ) → candidates K x ≡ ks → Found K l r x k
-      go (some m) p t q ks u = let y : m ≡ k = cc in neutral_is K rows c s l r x op k d (p ∙ ap some y)
-      go none p (some m) q ks u = let y : m ≡ k = cc in rated_is K rows c s l r x op k d (q ∙ ap some y)
-      go none p none q [] u = let y : true ≡ false = cc in absurd (true≢false y)
-      go none p none q (m ∷ []) u = let y : m ≡ k = cc in candidate_is k [] (u ∙ ap (λ (j : ℕ). j ∷ []) y)
-      go none p none q (m ∷ n ∷ ks) u = let y : true ≡ false = cc in absurd (true≢false y)
+      go (Some m) p t q ks u = let y : m ≡ k = cc in neutral_is K rows c s l r x op k d (p ∙ ap Some y)
+      go None p (Some m) q ks u = let y : m ≡ k = cc in rated_is K rows c s l r x op k d (q ∙ ap Some y)
+      go None p None q [] u = let y : true ≡ false = cc in absurd (true≢false y)
+      go None p None q (m ∷ []) u = let y : m ≡ k = cc in candidate_is k [] (u ∙ ap (λ (j : ℕ). j ∷ []) y)
+      go None p None q (m ∷ n ∷ ks) u = let y : true ≡ false = cc in absurd (true≢false y)
 
   -- what follows the derivation
   abbrev rest : Answer ℕ
@@ -48,12 +49,12 @@ module _ (K : Kinds) (rows : Rows) (c : Guaranteed K rows) (s : Scalars K) (l : 
     where
       go : (o : List ℕ) → resolve K l op r x ≡ o → (w : Option ℕ) → rows l op r ≡ w → Found K l r x k
       go (m ∷ []) p w q = let y : m ≡ k = cc in resolve_is k (p ∙ ap (λ (j : ℕ). j ∷ []) y)
-      go (m ∷ n ∷ ks) p (some j) q =
+      go (m ∷ n ∷ ks) p (Some j) q =
           let y : j ≡ k = cc in
-          let i = c.row l op r k (q ∙ ap some y) in
+          let i = c.row l op r k (q ∙ ap Some y) in
           let z : i.of ≡ x = cc i.derived in
           record { carries = rw z at (carries_tells K i.of k i.carried); no_point = i.no_point; below = λ a b. i.below }
-      go (m ∷ n ∷ ks) p none q = let y : true ≡ false = cc in absurd (true≢false y)
+      go (m ∷ n ∷ ks) p None q = let y : true ≡ false = cc in absurd (true≢false y)
       go [] p w q = let y : true ≡ false = cc in absurd (true≢false y)
 
   -- nothing is resolved exactly where none carries x
@@ -61,13 +62,13 @@ module _ (K : Kinds) (rows : Rows) (c : Guaranteed K rows) (s : Scalars K) (l : 
   unfolding resolve
   resolve_nothing hl hr = (λ e k b n y. there e k b n y (neutral K l op r) refl (rated K l op r) refl (candidates K x) refl, λ h. back h (neutral K l op r) refl (rated K l op r) refl)
     where
-      there : resolve K l op r x ≡ [] → (k : ℕ) → k < K.count → K.difference k ≡ none → carries K x k ≡ true
+      there : resolve K l op r x ≡ [] → (k : ℕ) → k < K.count → K.difference k ≡ None → carries K x k ≡ true
           → (n : Option ℕ) → neutral K l op r ≡ n → (t : Option ℕ) → rated K l op r ≡ t → (ks : List ℕ) → candidates K x ≡ ks → ⊥
-      there e k b n y (some m) p t q ks u = let z : true ≡ false = cc in true≢false z
-      there e k b n y none p (some m) q ks u = let z : true ≡ false = cc in true≢false z
-      there e k b n y none p none q [] u = true≢false (sym (tells_fits K x k (carries_tells K x k y) n) ∙ none_passes (fits K x) K.count k u b)
-      there e k b n y none p none q (m ∷ []) u = let z : true ≡ false = cc in true≢false z
-      there e k b n y none p none q (m ∷ j ∷ ks) u = let z : true ≡ false = cc in true≢false z
+      there e k b n y (Some m) p t q ks u = let z : true ≡ false = cc in true≢false z
+      there e k b n y None p (Some m) q ks u = let z : true ≡ false = cc in true≢false z
+      there e k b n y None p None q [] u = true≢false (sym (tells_fits K x k (carries_tells K x k y) n) ∙ none_passes (fits K x) K.count k u b)
+      there e k b n y None p None q (m ∷ []) u = let z : true ≡ false = cc in true≢false z
+      there e k b n y None p None q (m ∷ j ∷ ks) u = let z : true ≡ false = cc in true≢false z
 
       misses : NoneCarries K x → (k : ℕ) → k < K.count → (t : Bool) → fits K x k ≡ t → fits K x k ≡ false
       misses h k b true p = let f = fits_tells K x k p in absurd (h k b f.1 (tells_carries K x k f.0))
@@ -77,9 +78,9 @@ module _ (K : Kinds) (rows : Rows) (c : Guaranteed K rows) (s : Scalars K) (l : 
       none_found h k f = h k (f.below hl hr) f.no_point (tells_carries K x k f.carries)
 
       back : NoneCarries K x → (n : Option ℕ) → neutral K l op r ≡ n → (t : Option ℕ) → rated K l op r ≡ t → resolve K l op r x ≡ []
-      back h (some m) p t q = absurd (none_found h m (neutral_is K rows c s l r x op m d p))
-      back h none p (some m) q = absurd (none_found h m (rated_is K rows c s l r x op m d q))
-      back h none p none q = rw (resolve, p, q, passes_none (fits K x) K.count (λ k b. misses h k b (fits K x k) refl))
+      back h (Some m) p t q = absurd (none_found h m (neutral_is K rows c s l r x op m d p))
+      back h None p (Some m) q = absurd (none_found h m (rated_is K rows c s l r x op m d q))
+      back h None p None q = rw (resolve, p, q, passes_none (fits K x) K.count (λ k b. misses h k b (fits K x k) refl))
 
   -- and 45 is said exactly then
   rest_45 : (y : Graded) → rest ≡ refused (NoProductKind y) → (y ≡ x) × (resolve K l op r x ≡ [])
@@ -87,8 +88,8 @@ module _ (K : Kinds) (rows : Rows) (c : Guaranteed K rows) (s : Scalars K) (l : 
     where
       go : (o : List ℕ) → resolve K l op r x ≡ o → (w : Option ℕ) → rows l op r ≡ w → rest ≡ refused (NoProductKind y) → (y ≡ x) × (resolve K l op r x ≡ [])
       go (m ∷ []) p w q e = let z : true ≡ false = cc in absurd (true≢false z)
-      go (m ∷ n ∷ ks) p (some j) q e = let z : true ≡ false = cc in absurd (true≢false z)
-      go (m ∷ n ∷ ks) p none q e = let z : true ≡ false = cc in absurd (true≢false z)
+      go (m ∷ n ∷ ks) p (Some j) q e = let z : true ≡ false = cc in absurd (true≢false z)
+      go (m ∷ n ∷ ks) p None q e = let z : true ≡ false = cc in absurd (true≢false z)
       go [] p w q e = (cc, p)
 
   rest_exactly : l < K.count → r < K.count → (NoneCarries K x → rest ≡ refused (NoProductKind x)) × ((y : Graded) → rest ≡ refused (NoProductKind y) → (y ≡ x) × NoneCarries K x)

@@ -2,12 +2,12 @@
 use Prim.Native.Nat.{ℕ}
 use mathlib.Core.Path.{◌≡◌, refl, sym, ◌∙◌, ap}
 use mathlib.Core.Bool.{Bool, true, false, true≢false}
-use mathlib.Core.Option.{Option, some, none}
+use Rattle.std.specs.declared.option.Option.{Option}
+use Rattle.std.specs.declared.option.Option.TheVariants.{None, Some}
 use lib.Dec.{eqb}
 use borrow.Author.Tests.{eqb-true}
 use Rattle.dimension.specs.Dimension as D
 use Rattle.dimension.specs.declared.dimensions.Dimensions.{Dimensions}
-use Rattle.dimension.specs.declared.dimensions.Outcome.{Outcome}
 use Rattle.dimension.specs.declared.grade.ProductOp.{ProductOp}
 use Rattle.dimension.specs.declared.grade.ProductOp.TheVariants.{Mul, Div, Dot, Wedge}
 use Rattle.dimension.proofs.DimensionLaws as L
@@ -27,10 +27,10 @@ module _ (K : Kinds) (rows : Rows) (c : Guaranteed K rows) (s : Scalars K) (l r 
   found_target k t h p = record { carries = p; no_point = h.no_points.1; below = λ a b. h.below.1 }
 
   -- what the target carries, by the rate's dimensions a and duration's b
-  aims : (k t d : ℕ) (f : IsRate K k t) (b : Dimensions) → duration K ≡ some d → K.dims d ≡ some b → Carries K (record { dims = (D.product f.dims b).value; grade = K.grade k }) t
+  aims : (k t d : ℕ) (f : IsRate K k t) (b : Dimensions) → duration K ≡ Some d → K.dims d ≡ Some b → Carries K (record { dims = D.or_one (D.product f.dims b); grade = K.grade k }) t
   aims k t d f b h p = carries_tells K _ t (f.fits d b h p)
 
-  rated_found : (op : ProductOp) (e k : ℕ) → duration K ≡ some e → Derived K l op r x → rated_by K op e l r ≡ some k → Found K l r x k
+  rated_found : (op : ProductOp) (e k : ℕ) → duration K ≡ Some e → Derived K l op r x → rated_by K op e l r ≡ Some k → Found K l r x k
   unfolding rated_by joined
   rated_found Mul e k h d q = go (eqb r e) refl (eqb l e) refl
     where
@@ -38,7 +38,7 @@ module _ (K : Kinds) (rows : Rows) (c : Guaranteed K rows) (s : Scalars K) (l r 
       go true p u v =
           let w : r ≡ e = eqb-true r e p in
           let f = c.rate_of l k cc in
-          let z : K.dims e ≡ some d.right = cc d.has_right in
+          let z : K.dims e ≡ Some d.right = cc d.has_right in
           let i = aims l k e f d.right h z in
           found_target l k f (record {
             dims = cc (i.dims, f.resolved, d.has_left, d.dims);
@@ -47,9 +47,9 @@ module _ (K : Kinds) (rows : Rows) (c : Guaranteed K rows) (s : Scalars K) (l r 
       go false p true v =
           let w : l ≡ e = eqb-true l e v in
           let f = c.rate_of r k cc in
-          let z : K.dims e ≡ some d.left = cc d.has_left in
+          let z : K.dims e ≡ Some d.left = cc d.has_left in
           let i = aims r k e f d.left h z in
-          let y = ap (λ (o : Outcome). o.value) (L.product_comm d.left d.right (c.declared l _ d.has_left).twelve (c.declared r _ d.has_right).twelve) in
+          let y = ap D.or_one (L.product_comm d.left d.right (c.declared l _ d.has_left).twelve (c.declared r _ d.has_right).twelve) in
           found_target r k f (record {
             dims = cc (i.dims, f.resolved, d.has_right, d.dims, y);
             grade = i.grade ∙ scalar_by _ _ _ (c.grade r) (rw w (s.duration e h)) (ruled K Mul _ _ _ d.rule);
@@ -61,24 +61,24 @@ module _ (K : Kinds) (rows : Rows) (c : Guaranteed K rows) (s : Scalars K) (l r 
       go true p =
           let w : r ≡ e = eqb-true r e p in
           let f = c.rate_of k l (c.rate k l cc) in
-          let z : K.dims e ≡ some d.right = cc d.has_right in
+          let z : K.dims e ≡ Some d.right = cc d.has_right in
           let i = aims k l e f d.right h z in
           let m = c.declared k _ f.resolved in
           let n = c.declared r _ d.has_right in
-          let y : d.left ≡ (D.product f.dims d.right).value = cc (i.dims, d.has_left) in
-          let u = value_is _ f.dims (L.quotient_back f.dims d.right (D.product f.dims d.right).value (L.declared_sound _ m) (L.declared_sound _ n) (L.declared_product f.dims d.right m n)) in
+          let y : d.left ≡ D.or_one (D.product f.dims d.right) = cc (i.dims, d.has_left) in
+          let u = value_is _ f.dims (L.quotient_back f.dims d.right (D.or_one (D.product f.dims d.right)) (L.declared_sound _ m) (L.declared_sound _ n) (L.declared_product f.dims d.right m n)) in
           found_rate k l f (record {
-            dims = f.resolved ∙ ap some (sym (d.dims ∙ ap (λ (a : Dimensions). (D.quotient a d.right).value) y ∙ u));
+            dims = f.resolved ∙ ap Some (sym (d.dims ∙ ap (λ (a : Dimensions). D.or_one (D.quotient a d.right)) y ∙ u));
             grade = sym i.grade ∙ (over_scalar _ _ _ (c.grade l) (c.grade r) (ruled K Div _ _ _ d.rule)).0;
           })
       go false p = let z : true ≡ false = cc in absurd (true≢false z)
   rated_found Dot e k h d q = let z : true ≡ false = cc in absurd (true≢false z)
   rated_found Wedge e k h d q = let z : true ≡ false = cc in absurd (true≢false z)
 
-  pub rated_is : (op : ProductOp) (k : ℕ) → Derived K l op r x → rated K l op r ≡ some k → Found K l r x k
+  pub rated_is : (op : ProductOp) (k : ℕ) → Derived K l op r x → rated K l op r ≡ Some k → Found K l r x k
   unfolding rated
   rated_is op k d e = go (duration K) refl
     where
       go : (o : Option ℕ) → duration K ≡ o → Found K l r x k
-      go none p = let z : none ≡ some k = rw p at e in let y : true ≡ false = cc in absurd (true≢false y)
-      go (some o) p = rated_found op o k p d (rw p at e)
+      go None p = let z : None ≡ Some k = rw p at e in let y : true ≡ false = cc in absurd (true≢false y)
+      go (Some o) p = rated_found op o k p d (rw p at e)

@@ -3,7 +3,7 @@ use Prim.Native.Nat.{ℕ, suc, ◌+◌}
 use mathlib.Core.Path.{◌≡◌, refl}
 use mathlib.Core.Bool.{Bool, true, false, cond, true≢false}
 use mathlib.Core.List.{List, [], ◌∷◌, ◌++◌}
-use mathlib.Core.Option.{some, none}
+use Rattle.std.specs.declared.option.Option.TheVariants.{None, Some}
 use native.Mathlib.Omega.{arith}
 use native.Mathlib.Nat.{zero-add}
 use lib.Dec.{ltb}
@@ -13,18 +13,18 @@ use Rattle.guarantees.specs.Reached.{reached}
 use Rattle.rules.specs.Formula.{Token, Unary, Binary, in_limits, Machine, Step, on, stop, bad, onto, with_none, with_one, step, walk}
 
 module _ {E A : Type 0} (M : Machine E A) where
-  pub goes_on : (ts rest : List Token) (at : ℕ) (s s' : List A) → reached M ts s ≡ some s' → walk M (ts ++ rest) at s ≡ walk M rest (length ts + at) s'
+  pub goes_on : (ts rest : List Token) (at : ℕ) (s s' : List A) → reached M ts s ≡ Some s' → walk M (ts ++ rest) at s ≡ walk M rest (length ts + at) s'
   unfolding reached walk
   goes_on [] rest at s s' e = let z : s ≡ s' = cc in rw (z, zero-add at)
   goes_on (t ∷ ts) rest at s s' e = go (λ s'' h. goes_on ts rest (suc at) s'' s' h) (step M t s) refl
     where
-      go : ((s'' : List A) → reached M ts s'' ≡ some s' → walk M (ts ++ rest) (suc at) s'' ≡ walk M rest (length ts + suc at) s')
+      go : ((s'' : List A) → reached M ts s'' ≡ Some s' → walk M (ts ++ rest) (suc at) s'' ≡ walk M rest (length ts + suc at) s')
           → (o : Step E A) → step M t s ≡ o → walk M (t ∷ (ts ++ rest)) at s ≡ walk M rest (suc (length ts) + at) s'
       go ih (on s'') p =
           let z : length ts + suc at ≡ suc (length ts) + at = omega arith in
           rw (walk, p, ← z) (ih s'' (rw (reached, p) at e))
-      go ih (stop x) p = let z : none ≡ some s' = rw (reached, p) at e in cc
-      go ih bad p = let z : none ≡ some s' = rw (reached, p) at e in cc
+      go ih (stop x) p = let z : None ≡ Some s' = rw (reached, p) at e in cc
+      go ih bad p = let z : None ≡ Some s' = rw (reached, p) at e in cc
 
 -- what every step keeps holds of every term held
 pub record Keeps {E A : Type 0} (M : Machine E A) (P : A → Type 0) : Type 0 where
@@ -63,12 +63,12 @@ module _ {E A : Type 0} (M : Machine E A) (P : A → Type 0) (h : Keeps M P) whe
   step_keeps (Token.binary b) (y ∷ x ∷ s) s' k e = onto_keeps s s' (M.binary b x y) k.1.1 (λ a p. h.binary b x y a k.1.0 k.0 p) e
   step_keeps Token.unreadable s s' k e = let z : true ≡ false = cc in absurd (true≢false z)
 
-  pub reached_keeps : (ts : List Token) (s s' : List A) → All s → reached M ts s ≡ some s' → All s'
+  pub reached_keeps : (ts : List Token) (s s' : List A) → All s → reached M ts s ≡ Some s' → All s'
   unfolding reached
   reached_keeps [] s s' k e = let z : s ≡ s' = cc in rw z at k
   reached_keeps (t ∷ ts) s s' k e = go (λ s'' q f. reached_keeps ts s'' s' q f) (step M t s) refl
     where
-      go : ((s'' : List A) → All s'' → reached M ts s'' ≡ some s' → All s') → (o : Step E A) → step M t s ≡ o → All s'
+      go : ((s'' : List A) → All s'' → reached M ts s'' ≡ Some s' → All s') → (o : Step E A) → step M t s ≡ o → All s'
       go ih (on s'') p = ih s'' (step_keeps t s s'' k p) (rw (reached, p) at e)
-      go ih (stop x) p = let y : none ≡ some s' = rw (reached, p) at e in let z : true ≡ false = cc in absurd (true≢false z)
-      go ih bad p = let y : none ≡ some s' = rw (reached, p) at e in let z : true ≡ false = cc in absurd (true≢false z)
+      go ih (stop x) p = let y : None ≡ Some s' = rw (reached, p) at e in let z : true ≡ false = cc in absurd (true≢false z)
+      go ih bad p = let y : None ≡ Some s' = rw (reached, p) at e in let z : true ≡ false = cc in absurd (true≢false z)

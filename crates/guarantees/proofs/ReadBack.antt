@@ -3,7 +3,8 @@ use Prim.Native.Nat.{ℕ, ◌+◌, ◌*◌, ◌<◌, ◌≤◌, min}
 use mathlib.Core.Path.{◌≡◌, refl, sym, ◌∙◌, ap, fun_ext}
 use mathlib.Core.Bool.{Bool, true, false, cond, true≢false}
 use mathlib.Core.List.{List, []}
-use mathlib.Core.Option.{Option, some, none}
+use Rattle.std.specs.declared.option.Option.{Option}
+use Rattle.std.specs.declared.option.Option.TheVariants.{None, Some}
 use native.Mathlib.Omega.{arith}
 use native.Mathlib.Nat.{le_trans}
 use lib.Dec.{eqb, ltb}
@@ -37,12 +38,12 @@ pub record Fits (C : Catalog) : Type 0 where
   pub kinds : C.kind_count ≤ 240
   pub rows : C.row_count ≤ 200
   pub grade : (k : ℕ) → (C.kind k).grade ≤ 3
-  pub declared : (k : ℕ) (a : Dimensions) → (C.kind k).dims ≡ some a → D.Declared a
+  pub declared : (k : ℕ) (a : Dimensions) → (C.kind k).dims ≡ Some a → D.Declared a
 
 -- ---- an index is read back
-pub index_back : (o : Option ℕ) → ((k : ℕ) → o ≡ some k → k < 240) → index_or (index_word o) ≡ o
-index_back none h = refl
-index_back (some k) h = rw (lt-ltb k absent (le_trans (h k refl) (omega arith)))
+pub index_back : (o : Option ℕ) → ((k : ℕ) → o ≡ Some k → k < 240) → index_or (index_word o) ≡ o
+index_back None h = refl
+index_back (Some k) h = rw (lt-ltb k absent (le_trans (h k refl) (omega arith)))
 
 -- f below n and a from there on is g
 below_is : {A : Type 0} (n : ℕ) (a : A) (f g : ℕ → A) → ((k : ℕ) → k < n → f k ≡ g k) → ((k : ℕ) → n ≤ k → a ≡ g k) → below n a f ≡ g
@@ -61,7 +62,7 @@ ratio_same : (n : ℤ) (d : ℕ) (x : Rational) → n ≡ x.num → d ≡ x.den 
 ratio_same n d x p q i = record { num = p i; den = q i }
 
 module _ (t : List ℕ) (C : Catalog) (holds : Holds t C) (fit : Fits C) where
-  pub exponent_back : (k b : ℕ) (a : Dimensions) → k < C.kind_count → b < 12 → (C.kind k).dims ≡ some a → exponent_from t (16 + 32 * k) b ≡ D.exponent a b
+  pub exponent_back : (k b : ℕ) (a : Dimensions) → k < C.kind_count → b < 12 → (C.kind k).dims ≡ Some a → exponent_from t (16 + 32 * k) b ≡ D.exponent a b
   unfolding exponent_from
   exponent_back k b a h l e =
       let m : k < 240 = le_trans h fit.kinds in
@@ -71,14 +72,14 @@ module _ (t : List ℕ) (C : Catalog) (holds : Holds t C) (fit : Fits C) where
       (ap (λ (w : ℕ). I.twos 2147483648 w) (num_word t C holds k m h b l ∙ ap (λ (y : Rational). I.bits32 y.num) x) ∙ B.twos_bits (D.exponent a b).num n)
       (den_word t C holds k m h b l ∙ ap (λ (y : Rational). y.den) x)
 
-  dims_back : (k : ℕ) (a : Dimensions) → k < C.kind_count → (C.kind k).dims ≡ some a → dims_from t (16 + 32 * k) ≡ a
+  dims_back : (k : ℕ) (a : Dimensions) → k < C.kind_count → (C.kind k).dims ≡ Some a → dims_from t (16 + 32 * k) ≡ a
   unfolding dims_from
   dims_back k a h e =
       L.same_exponents _ a (length_tab (exponent_from t (16 + 32 * k)) 12) (fit.declared k a e).twelve
       (λ b l. tab_at (exponent_from t (16 + 32 * k)) 12 b F.zero l ∙ exponent_back k b a h l e)
 
   abbrev read_dims : ℕ → Option Dimensions
-  read_dims k = cond (eqb (word t (16 + 32 * k + 24)) 1) (some (dims_from t (16 + 32 * k))) none
+  read_dims k = cond (eqb (word t (16 + 32 * k + 24)) 1) (Some (dims_from t (16 + 32 * k))) None
 
   given_back : (k : ℕ) → k < C.kind_count → read_dims k ≡ (C.kind k).dims
   given_back k h = go (C.kind k).dims refl
@@ -87,19 +88,19 @@ module _ (t : List ℕ) (C : Catalog) (holds : Holds t C) (fit : Fits C) where
       flag = flag_word t C holds k (le_trans h fit.kinds) h
 
       go : (o : Option Dimensions) → (C.kind k).dims ≡ o → read_dims k ≡ (C.kind k).dims
-      go none p = let f : word t (16 + 32 * k + 24) ≡ 0 = rw p at flag in rw (f, p)
-      go (some a) p = let f : word t (16 + 32 * k + 24) ≡ 1 = rw p at flag in rw (f, p) (ap some (dims_back k a h p))
+      go None p = let f : word t (16 + 32 * k + 24) ≡ 0 = rw p at flag in rw (f, p)
+      go (Some a) p = let f : word t (16 + 32 * k + 24) ≡ 1 = rw p at flag in rw (f, p) (ap Some (dims_back k a h p))
 
   -- ---- links are in range
-  pub link_small : (id : Id) (k : ℕ) → link C id ≡ some k → k < 240
+  pub link_small : (id : Id) (k : ℕ) → link C id ≡ Some k → k < 240
   unfolding link
   link_small id k e = go (blank id) refl
     where
       go : (b : Bool) → blank id ≡ b → k < 240
-      go true p = let h : none ≡ some k = rw p at e in let z : true ≡ false = cc in absurd (true≢false z)
+      go true p = let h : None ≡ Some k = rw p at e in let z : true ≡ false = cc in absurd (true≢false z)
       go false p = le_trans (find_below C id (rw p at e)) fit.kinds
 
-  rate_small : (n j k : ℕ) → n ≤ 240 → rate_among C n j ≡ some k → k < 240
+  rate_small : (n j k : ℕ) → n ≤ 240 → rate_among C n j ≡ Some k → k < 240
   unfolding rate_among
   rate_small n j k h e = le_trans (first_below (λ k. meant j (target_of C k)) n e) h
 
@@ -110,7 +111,7 @@ module _ (t : List ℕ) (C : Catalog) (holds : Holds t C) (fit : Fits C) where
   past : (k : ℕ) → C.kind_count ≤ k → C.kind k ≡ absent_kind
   past k h = fit.quiet k h
 
-  quiet_link : (f : Kind → Id) → f absent_kind ≡ [] → (k : ℕ) → C.kind_count ≤ k → none ≡ link C (f (C.kind k))
+  quiet_link : (f : Kind → Id) → f absent_kind ≡ [] → (k : ℕ) → C.kind_count ≤ k → None ≡ link C (f (C.kind k))
   unfolding link blank
   quiet_link f e k h = rw (past k h, e)
 
@@ -128,20 +129,20 @@ module _ (t : List ℕ) (C : Catalog) (holds : Holds t C) (fit : Fits C) where
   unfolding table.kinds_of catalog.kinds_of
   kinds_back i = record {
     count = count_back i;
-    dims = (ap (λ (n : ℕ). below n none read_dims) count_back
-        ∙ below_is C.kind_count none read_dims (λ k. (C.kind k).dims) given_back (λ k h. sym (ap (λ (x : Kind). x.dims) (past k h)))) i;
+    dims = (ap (λ (n : ℕ). below n None read_dims) count_back
+        ∙ below_is C.kind_count None read_dims (λ k. (C.kind k).dims) given_back (λ k h. sym (ap (λ (x : Kind). x.dims) (past k h)))) i;
     grade = (ap (λ (n : ℕ). below n 0 (λ k. word t (16 + 32 * k + 25))) count_back
         ∙ below_is C.kind_count 0 (λ k. word t (16 + 32 * k + 25)) (λ k. (C.kind k).grade) (λ k h. grade_word t C holds k (small k h) h) (λ k h. sym (ap (λ (x : Kind). x.grade) (past k h)))) i;
-    difference = (ap (λ (n : ℕ). below n none (λ k. index_or (word t (16 + 32 * k + 27)))) count_back
-        ∙ below_is C.kind_count none (λ k. index_or (word t (16 + 32 * k + 27))) (difference_of C)
+    difference = (ap (λ (n : ℕ). below n None (λ k. index_or (word t (16 + 32 * k + 27)))) count_back
+        ∙ below_is C.kind_count None (λ k. index_or (word t (16 + 32 * k + 27))) (difference_of C)
         (λ k h. ap index_or (difference_word t C holds k (small k h) h) ∙ link_back (C.kind k).difference) (quiet_link (λ x. x.difference) refl)) i;
-    rate_of = (ap (λ (n : ℕ). below n none (λ k. index_or (word t (16 + 32 * k + 28)))) count_back
-        ∙ below_is C.kind_count none (λ k. index_or (word t (16 + 32 * k + 28))) (target_of C)
+    rate_of = (ap (λ (n : ℕ). below n None (λ k. index_or (word t (16 + 32 * k + 28)))) count_back
+        ∙ below_is C.kind_count None (λ k. index_or (word t (16 + 32 * k + 28))) (target_of C)
         (λ k h. ap index_or (target_word t C holds k (small k h) h) ∙ link_back (C.kind k).rate_of) (quiet_link (λ x. x.rate_of) refl)) i;
-    rate = (ap (λ (n : ℕ). below n none (λ k. index_or (word t (16 + 32 * k + 29)))) count_back
-        ∙ below_is C.kind_count none (λ k. index_or (word t (16 + 32 * k + 29))) (below C.kind_count none (rate_among C C.kind_count))
-        (λ k h. ap index_or (rate_word t C holds k (small k h) h) ∙ index_back _ (λ j e. rate_small C.kind_count k j fit.kinds e) ∙ sym (below_in C.kind_count none (rate_among C C.kind_count) k h))
-        (λ k h. sym (below_past C.kind_count none (rate_among C C.kind_count) k h))) i;
+    rate = (ap (λ (n : ℕ). below n None (λ k. index_or (word t (16 + 32 * k + 29)))) count_back
+        ∙ below_is C.kind_count None (λ k. index_or (word t (16 + 32 * k + 29))) (below C.kind_count None (rate_among C C.kind_count))
+        (λ k h. ap index_or (rate_word t C holds k (small k h) h) ∙ index_back _ (λ j e. rate_small C.kind_count k j fit.kinds e) ∙ sym (below_in C.kind_count None (rate_among C C.kind_count) k h))
+        (λ k h. sym (below_past C.kind_count None (rate_among C C.kind_count) k h))) i;
     dimensionless = (ap index_or (head_dimensionless t C holds) ∙ link_back C.dimensionless) i;
     time = (ap index_or (head_time t C holds) ∙ link_back C.time) i;
   }

@@ -2,13 +2,12 @@
 use Prim.Native.Nat.{ℕ}
 use mathlib.Core.Path.{◌≡◌, refl, sym, ◌∙◌, ap}
 use mathlib.Core.Bool.{Bool, true, false, cond, not, ◌&&◌, true≢false}
-use mathlib.Core.Option.{Option, some, none}
+use Rattle.std.specs.declared.option.Option.{Option}
+use Rattle.std.specs.declared.option.Option.TheVariants.{None, Some}
 use Rattle.laws.specs.Out.{Out, given, refused, ◌>>=◌, ◌>>◌, refuse_if}
 use Rattle.dimension.specs.declared.dimensions.Dimensions.{Dimensions}
 use Rattle.dimension.specs.declared.grade.ProductOp.{ProductOp}
 use Rattle.dimension.specs.declared.grade.ProductOp.TheVariants.{Div}
-use Rattle.dimension.specs.declared.grade.Grade.{Grade}
-use Rattle.dimension.specs.declared.grade.Grade.TheVariants.{Single, Absent}
 use Rattle.rules.specs.Kinds.{Kinds, Graded, same_op, point, carries}
 use Rattle.rules.specs.Refusal.{Refusal, Answer, CommutativeQuotient, Point, InvalidOperationRule}
 use Rattle.rules.specs.Arithmetic.{operand, grade_by, graded, derive, resolve}
@@ -49,8 +48,8 @@ module _ (x : Graded) where
   no_called C i id e = go (find C id) refl
     where
       go : (o : Option ℕ) → find C id ≡ o → ⊥
-      go none p = let z : true ≡ false = cc in true≢false z
-      go (some k) p = let z : true ≡ false = cc in true≢false z
+      go None p = let z : true ≡ false = cc in true≢false z
+      go (Some k) p = let z : true ≡ false = cc in true≢false z
 
   no_point : (t : Bool) (l : ℕ) (op : ProductOp) (r k : ℕ) → Says25 (refuse_if t (Point l op r k)) → ⊥
   no_point true l op r k e = let z : true ≡ false = cc in true≢false z
@@ -61,16 +60,16 @@ module _ (x : Graded) where
   no_operand K k e = go (K.dims k) refl
     where
       go : (o : Option Dimensions) → K.dims k ≡ o → ⊥
-      go none p = let z : true ≡ false = cc in true≢false z
-      go (some d) p = let z : true ≡ false = cc in true≢false z
+      go None p = let z : true ≡ false = cc in true≢false z
+      go (Some d) p = let z : true ≡ false = cc in true≢false z
 
   no_graded : (K : Kinds) (l : ℕ) (op : ProductOp) (r : ℕ) → Says25 (graded K l op r) → ⊥
   unfolding graded
   no_graded K l op r e = go (grade_by K op (K.grade l) (K.grade r)) refl
     where
-      go : (g : Grade) → grade_by K op (K.grade l) (K.grade r) ≡ g → ⊥
-      go (Single g) p = let z : true ≡ false = cc in true≢false z
-      go Absent p = let z : true ≡ false = cc in true≢false z
+      go : (g : Option ℕ) → grade_by K op (K.grade l) (K.grade r) ≡ g → ⊥
+      go (Some g) p = let z : true ≡ false = cc in true≢false z
+      go None p = let z : true ≡ false = cc in true≢false z
 
   no_given : {A : Type 0} (a : A) → Says25 (given a) → ⊥
   no_given a e = let z : true ≡ false = cc in true≢false z
@@ -90,8 +89,8 @@ module _ (x : Graded) where
   no_fresh C i l r e = go (row_among C i l (C.row i).op r) refl
     where
       go : (o : Option ℕ) → row_among C i l (C.row i).op r ≡ o → ⊥
-      go none p = let z : true ≡ false = cc in true≢false z
-      go (some j) p = let z : true ≡ false = cc in true≢false z
+      go None p = let z : true ≡ false = cc in true≢false z
+      go (Some j) p = let z : true ≡ false = cc in true≢false z
 
   no_turned : (C : Catalog) (t : Bool) (i l r : ℕ) → Says25 (cond t (fresh C i l r) (given tt)) → ⊥
   no_turned C true i l r e = no_fresh C i l r e
@@ -132,7 +131,7 @@ module _ (C : Catalog) (i : ℕ) (x : Graded) where
         other = ap (λ (y : Graded). carries K y k.0) (sym o.0) ∙ o.1;
       }
     where
-      unfit : (l r k : ℕ) (v : Graded) (t : Bool) → carries K v k ≡ t → find C w.result ≡ some k → K.difference k ≡ none
+      unfit : (l r k : ℕ) (v : Graded) (t : Bool) → carries K v k ≡ t → find C w.result ≡ Some k → K.difference k ≡ None
           → (refuse_if (not (carries K v k)) (InvalidOperationRule v) >> (several C (resolve K l w.op r v) v >> (fresh C i l r >> cond w.commutative (fresh C i r l) (given tt)))) ≡ refused (InvalidOperationRule x)
           → (v ≡ x) × (carries K v k ≡ false)
       unfit l r k v false c f n e = let q : refused (InvalidOperationRule v) ≡ refused (InvalidOperationRule x) = rw c at e in let z : v ≡ x = cc in (z, c)

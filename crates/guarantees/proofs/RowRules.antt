@@ -2,7 +2,7 @@
 use Prim.Native.Nat.{ℕ}
 use mathlib.Core.Path.{◌≡◌, refl, sym, ◌∙◌}
 use mathlib.Core.Bool.{Bool, true, false, not, ◌&&◌, ◌||◌, true≢false}
-use mathlib.Core.Option.{some, none}
+use Rattle.std.specs.declared.option.Option.TheVariants.{None, Some}
 use Rattle.laws.specs.Out.{given}
 use Rattle.laws.proofs.Cases.{and_left, and_right}
 use Rattle.laws.proofs.Checks.{bind_given, then_given, found_given}
@@ -36,11 +36,11 @@ same_op_law Wedge Wedge e = refl
 
 -- ---- a row for left, operation and right: as it stands, or turned
 pub data Covered (C : Catalog) (l : ℕ) (op : ProductOp) (r : ℕ) (x : Row) : Type 0 where
-  direct : x.op ≡ op → find C x.left ≡ some l → find C x.right ≡ some r → Covered C l op r x
-  turned : x.commutative ≡ true → x.op ≡ op → find C x.left ≡ some r → find C x.right ≡ some l → Covered C l op r x
+  direct : x.op ≡ op → find C x.left ≡ Some l → find C x.right ≡ Some r → Covered C l op r x
+  turned : x.commutative ≡ true → x.op ≡ op → find C x.left ≡ Some r → find C x.right ≡ Some l → Covered C l op r x
 
 module _ (C : Catalog) where
-  names_tells : (l r : ℕ) (x : Row) → names C l r x ≡ true → (find C x.left ≡ some l) × (find C x.right ≡ some r)
+  names_tells : (l r : ℕ) (x : Row) → names C l r x ≡ true → (find C x.left ≡ Some l) × (find C x.right ≡ Some r)
   unfolding names
   names_tells l r x e =
       (meant_is l (find C x.left) (and_left (meant l (find C x.left)) _ e), meant_is r (find C x.right) (and_right (meant l (find C x.left)) _ e))
@@ -64,16 +64,16 @@ pub record Accepted (C : Catalog) (i : ℕ) : Type 0 where
   pub left : ℕ
   pub right : ℕ
   pub result : ℕ
-  pub finds_left : find C (C.row i).left ≡ some left
-  pub finds_right : find C (C.row i).right ≡ some right
-  pub finds_result : find C (C.row i).result ≡ some result
+  pub finds_left : find C (C.row i).left ≡ Some left
+  pub finds_right : find C (C.row i).right ≡ Some right
+  pub finds_result : find C (C.row i).result ≡ Some result
   -- 22
   pub no_quotient : (C.row i).commutative ≡ true → (C.row i).op ≡ Div → ⊥
   -- 23 to 26
   pub row : IsRow (kinds_of C) left (C.row i).op right result
   -- 27
-  pub only : row_among C i left (C.row i).op right ≡ none
-  pub only_turned : (C.row i).commutative ≡ true → row_among C i right (C.row i).op left ≡ none
+  pub only : row_among C i left (C.row i).op right ≡ None
+  pub only_turned : (C.row i).commutative ≡ true → row_among C i right (C.row i).op left ≡ None
 
 div_div : (op : ProductOp) → op ≡ Div → same_op op Div ≡ true
 div_div op e = rw e
@@ -85,7 +85,7 @@ module _ (C : Catalog) (i : ℕ) where
   abbrev x : Row
   x = C.row i
 
-  fresh_given : (l r : ℕ) {u : Unit {0}} → fresh C i l r ≡ given u → row_among C i l x.op r ≡ none
+  fresh_given : (l r : ℕ) {u : Unit {0}} → fresh C i l r ≡ given u → row_among C i l x.op r ≡ None
   unfolding fresh
   fresh_given l r e = found_given (row_among C i l x.op r) _ e
 

@@ -2,7 +2,8 @@
 use Prim.Native.Nat.{ℕ}
 use mathlib.Core.Path.{◌≡◌, refl, sym, subst}
 use mathlib.Core.List.{List, [], ◌∷◌, ◌++◌}
-use mathlib.Core.Option.{Option, some, none}
+use Rattle.std.specs.declared.option.Option.{Option}
+use Rattle.std.specs.declared.option.Option.TheVariants.{None, Some}
 use native.Mathlib.Omega.{arith}
 use lib.ListN.{length}
 use borrow.Author.Tests.{le-ltb}
@@ -46,8 +47,8 @@ module _ (K : Kinds) (small large : Rows) (p : Premises K small large) (toks : L
 
   lifted : (at l : ℕ) (op : ProductOp) (r : ℕ) (ks : List ℕ) → Grown (lifts large) (stopped at (UnresolvedTwin l op r ks)) (formula K large toks)
       → (w : Option ℕ) → large l op r ≡ w → past at (formula K large toks) ≡ is_some (large l op r)
-  lifted at l op r ks g (some k) e = rw e (g.1 (rw e))
-  lifted at l op r ks g none e = rw (e, g.0 (rw e)) (le-ltb at at (omega arith))
+  lifted at l op r ks g (Some k) e = rw e (g.1 (rw e))
+  lifted at l op r ks g None e = rw (e, g.0 (rw e)) (le-ltb at at (omega arith))
 
   pub demand3 : Demand3 K small large toks
   demand3 = record {

@@ -2,7 +2,7 @@
 use Prim.Native.Nat.{ℕ}
 use mathlib.Core.Path.{◌≡◌}
 use mathlib.Core.List.{List}
-use mathlib.Core.Option.{some}
+use Rattle.std.specs.declared.option.Option.TheVariants.{Some}
 use Rattle.laws.specs.Out.{given}
 use Rattle.dimension.specs.Dimension as D
 use Rattle.dimension.specs.declared.dimensions.Dimensions.{Dimensions}
@@ -30,7 +30,7 @@ joins Dot a b h k i l = L.product_adds a b h.twelve k.twelve _ i (L.declared_pro
 joins Wedge a b h k i l = L.product_adds a b h.twelve k.twelve _ i (L.declared_product a b h k) l
 
 module _ (K : Kinds) (rows : Rows) (c : Guaranteed K rows) where
-  derived_joins : (l : ℕ) (op : ProductOp) (r : ℕ) (x : Graded) (a b : Dimensions) → Derived K l op r x → K.dims l ≡ some a → K.dims r ≡ some b → JoinsAll op a b x.dims
+  derived_joins : (l : ℕ) (op : ProductOp) (r : ℕ) (x : Graded) (a b : Dimensions) → Derived K l op r x → K.dims l ≡ Some a → K.dims r ≡ Some b → JoinsAll op a b x.dims
   derived_joins l op r x a b d p q =
       let z : d.left ≡ a = agreed_some d.has_left p in
       let y : d.right ≡ b = agreed_some d.has_right q in

@@ -3,7 +3,7 @@ use Prim.Native.Nat.{ℕ, suc, ◌+◌}
 use mathlib.Core.Path.{◌≡◌, refl, ◌∙◌, ap}
 use mathlib.Core.Bool.{true, false, true≢false}
 use mathlib.Core.List.{List, [], ◌∷◌, ◌++◌}
-use mathlib.Core.Option.{some}
+use Rattle.std.specs.declared.option.Option.TheVariants.{Some}
 use native.Mathlib.Omega.{arith}
 use lib.ListN.{length}
 use Rattle.rules.specs.Formula.{Token, Machine, Step, on, stop, bad, stopped, malformed, step, walk}
@@ -17,7 +17,7 @@ module _ {E A : Type 0} (M : Machine E A) where
     pub held : List A
     pub splits : ts ≡ before ++ (token ∷ rest)
     pub place : length before ≡ n
-    pub comes : reached M before s ≡ some held
+    pub comes : reached M before s ≡ Some held
     pub stops : step M token held ≡ stop x
 
   pub stops_at : (ts : List Token) (at p : ℕ) (s : List A) (x : E) → walk M ts at s ≡ stopped p x → (n : ℕ) × (n + at ≡ p) × StopsAt ts s n x

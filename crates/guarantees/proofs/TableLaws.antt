@@ -3,7 +3,8 @@ use Prim.Native.Nat.{ℕ, ◌+◌, ◌*◌, ◌/◌, ◌%◌, ◌<◌, ◌≤◌
 use mathlib.Core.Path.{◌≡◌, refl, sym, ◌∙◌, subst}
 use mathlib.Core.Bool.{Bool, true, false, cond, ◌&&◌, ◌||◌, true≢false}
 use mathlib.Core.List.{List}
-use mathlib.Core.Option.{Option, some, none}
+use Rattle.std.specs.declared.option.Option.{Option}
+use Rattle.std.specs.declared.option.Option.TheVariants.{None, Some}
 use native.Mathlib.Omega.{arith}
 use lib.Dec.{eqb, ltb, leb}
 use lib.ListN.{length}
@@ -24,20 +25,20 @@ use Rattle.rules.specs.Table.{word, kind_place, index_or, exponent_from, dims_fr
 use Rattle.guarantees.proofs.ProductLaws.{Within}
 
 -- ---- an index that is read, of a word that is one or none
-is_index : (w k : ℕ) → index_or w ≡ some k → (w < absent) × (w ≡ k)
+is_index : (w k : ℕ) → index_or w ≡ Some k → (w < absent) × (w ≡ k)
 is_index w k e = go (ltb w absent) refl
   where
     go : (t : Bool) → ltb w absent ≡ t → (w < absent) × (w ≡ k)
-    go true p = let z : some w ≡ some k = rw p at e in (ltb-true w absent p, cc)
-    go false p = let z : none ≡ some k = rw p at e in let y : true ≡ false = cc in absurd (true≢false y)
+    go true p = let z : Some w ≡ Some k = rw p at e in (ltb-true w absent p, cc)
+    go false p = let z : None ≡ Some k = rw p at e in let y : true ≡ false = cc in absurd (true≢false y)
 
 -- f below n names something: it is below n, and f names it
-below_some : {A : Type 0} (n : ℕ) (f : ℕ → Option A) (k : ℕ) (a : A) → below n none f k ≡ some a → (k < n) × (f k ≡ some a)
+below_some : {A : Type 0} (n : ℕ) (f : ℕ → Option A) (k : ℕ) (a : A) → below n None f k ≡ Some a → (k < n) × (f k ≡ Some a)
 below_some n f k a e = go (ltb k n) refl
   where
-    go : (t : Bool) → ltb k n ≡ t → (k < n) × (f k ≡ some a)
-    go true p = let h = ltb-true k n p in (h, sym (below_in n none f k h) ∙ e)
-    go false p = let z : none ≡ some a = sym (below_past n none f k (ltb-false k n p)) ∙ e in let y : true ≡ false = cc in absurd (true≢false y)
+    go : (t : Bool) → ltb k n ≡ t → (k < n) × (f k ≡ Some a)
+    go true p = let h = ltb-true k n p in (h, sym (below_in n None f k h) ∙ e)
+    go false p = let z : None ≡ Some a = sym (below_past n None f k (ltb-false k n p)) ∙ e in let y : true ≡ false = cc in absurd (true≢false y)
 
 module _ (t : List ℕ) (h : is_table t ≡ true) where
   parts : (head_fine t ≡ true) × (all (kind_fine t) (word t 0) ≡ true)
@@ -62,7 +63,7 @@ module _ (t : List ℕ) (h : is_table t ≡ true) where
   in_count k e = rw table_count (ltb-true k (word t 0) e)
 
   -- a link that is read is one of the table's kinds
-  link_in : (w k : ℕ) → link_fine t w ≡ true → index_or w ≡ some k → k < (kinds_of t).count
+  link_in : (w k : ℕ) → link_fine t w ≡ true → index_or w ≡ Some k → k < (kinds_of t).count
   link_in w k e i = go (is_kind t w) refl
     where
       z : (w < absent) × (w ≡ k)
@@ -141,18 +142,18 @@ module _ (t : List ℕ) (h : is_table t ≡ true) where
           rw (below_in (kinds_of t).count 0 (λ k. word t (p k + 25)) k m) (omega arith)
       go false q = rw (below_past (kinds_of t).count 0 (λ k. word t (p k + 25)) k (ltb-false k (kinds_of t).count q)) (omega arith)
 
-  pub table_declared : (k : ℕ) (a : Dimensions) → (kinds_of t).dims k ≡ some a → D.Declared a
+  pub table_declared : (k : ℕ) (a : Dimensions) → (kinds_of t).dims k ≡ Some a → D.Declared a
   unfolding kinds_of
   table_declared k a f =
-      let b = below_some (kinds_of t).count (λ k. cond (eqb (word t (p k + 24)) 1) (some (dims_from t (p k))) none) k a f in
+      let b = below_some (kinds_of t).count (λ k. cond (eqb (word t (p k + 24)) 1) (Some (dims_from t (p k))) None) k a f in
       go b.0 b.1 (eqb (word t (p k + 24)) 1) refl
     where
-      go : k < (kinds_of t).count → cond (eqb (word t (p k + 24)) 1) (some (dims_from t (p k))) none ≡ some a → (s : Bool) → eqb (word t (p k + 24)) 1 ≡ s → D.Declared a
+      go : k < (kinds_of t).count → cond (eqb (word t (p k + 24)) 1) (Some (dims_from t (p k))) None ≡ Some a → (s : Bool) → eqb (word t (p k + 24)) 1 ≡ s → D.Declared a
       go m f true q =
-          let y : some (dims_from t (p k)) ≡ some a = rw q at f in
+          let y : Some (dims_from t (p k)) ≡ Some a = rw q at f in
           let z : dims_from t (p k) ≡ a = cc in
           subst D.Declared z (exponents k m q)
-      go m f false q = let y : none ≡ some a = rw q at f in let z : true ≡ false = cc in absurd (true≢false z)
+      go m f false q = let y : None ≡ Some a = rw q at f in let z : true ≡ false = cc in absurd (true≢false z)
 
   module _ (s : List ℕ) (g : are_rows t s ≡ true) where
     rows_fine : all (λ i. row_fine t s (4 * i)) (length s / 4) ≡ true
@@ -163,13 +164,13 @@ module _ (t : List ℕ) (h : is_table t ≡ true) where
     unfolding row_fine
     result_in i e = and_right (is_kind t (word s (4 * i)) && ltb (word s (4 * i + 1)) 4 && is_kind t (word s (4 * i + 2))) _ e
 
-    row_in : (l : ℕ) (op : ProductOp) (r k : ℕ) → rows_of s l op r ≡ some k → k < (kinds_of t).count
+    row_in : (l : ℕ) (op : ProductOp) (r k : ℕ) → rows_of s l op r ≡ Some k → k < (kinds_of t).count
     unfolding rows_of
     row_in l op r k f = go (first (is_row s l op r) (length s / 4)) refl
       where
         go : (o : Option ℕ) → first (is_row s l op r) (length s / 4) ≡ o → k < (kinds_of t).count
-        go none q = let y : none ≡ some k = rw q at f in let z : true ≡ false = cc in absurd (true≢false z)
-        go (some i) q =
+        go None q = let y : None ≡ Some k = rw q at f in let z : true ≡ false = cc in absurd (true≢false z)
+        go (Some i) q =
             let w = is_index (word s (4 * i + 3)) k (rw q at f) in
             let v = all_at (λ i. row_fine t s (4 * i)) (length s / 4) i rows_fine (first_below (is_row s l op r) (length s / 4) q) in
             rw (← w.1) (in_count (word s (4 * i + 3)) (result_in i v))

@@ -4,7 +4,7 @@ use Prim.Native.Nat.{ℕ, zero, suc}
 use mathlib.Core.Path.{◌≡◌, refl}
 use mathlib.Core.Bool.{Bool, true, false, cond, ◌&&◌, true≢false}
 use mathlib.Core.List.{List, [], ◌∷◌, zip_with}
-use mathlib.Core.Option.{some, none}
+use Rattle.std.specs.declared.option.Option.TheVariants.{None, Some}
 use native.Mathlib.Omega.{arith}
 use lib.Dec.{eqb, ltb, lit<}
 use lib.IntN.{pos}
@@ -54,22 +54,22 @@ unfolding teaching listed point_fine all
 teaching_scalars = record {
   dimensionless = one_scalar teaching refl;
   duration = duration_scalar teaching refl;
-  points = points_graded teaching (list_points listed (some 0) (some 3) refl);
+  points = points_graded teaching (list_points listed (Some 0) (Some 3) refl);
 }
 
 -- ---- 6 × 7 = 1, commutative
 unfoldable pub taught_row : Rows
-taught_row l Mul r = cond (eqb l 6) (cond (eqb r 7) (some 1) none) (cond (eqb l 7) (cond (eqb r 6) (some 1) none) none)
-taught_row l Div r = none
-taught_row l Dot r = none
-taught_row l Wedge r = none
+taught_row l Mul r = cond (eqb l 6) (cond (eqb r 7) (Some 1) None) (cond (eqb l 7) (cond (eqb r 6) (Some 1) None) None)
+taught_row l Div r = None
+taught_row l Dot r = None
+taught_row l Wedge r = None
 
 -- it is a row for just these two
 module _ (Q : ℕ → ProductOp → ℕ → ℕ → Type 0) (p : Q 6 Mul 7 1) (q : Q 7 Mul 6 1) where
-  never : (l : ℕ) (op : ProductOp) (r k : ℕ) → none ≡ some k → Q l op r k
+  never : (l : ℕ) (op : ProductOp) (r k : ℕ) → None ≡ Some k → Q l op r k
   never l op r k e = let z : true ≡ false = cc in absurd (true≢false z)
 
-  row_is : (l : ℕ) (op : ProductOp) (r k : ℕ) → taught_row l op r ≡ some k → Q l op r k
+  row_is : (l : ℕ) (op : ProductOp) (r k : ℕ) → taught_row l op r ≡ Some k → Q l op r k
   unfolding taught_row
   row_is l Div r k e = never l Div r k e
   row_is l Dot r k e = never l Dot r k e

@@ -3,7 +3,8 @@ use Prim.Native.Nat.{ℕ}
 use mathlib.Core.Path.{◌≡◌, refl, ap}
 use mathlib.Core.Bool.{Bool, true, false}
 use mathlib.Core.List.{List, []}
-use mathlib.Core.Option.{Option, some, none}
+use Rattle.std.specs.declared.option.Option.{Option}
+use Rattle.std.specs.declared.option.Option.TheVariants.{None, Some}
 use native.Mathlib.Omega.{arith}
 use lib.Dec.{ltb}
 use lib.IntN.{pos, neg_ℤ}
@@ -47,7 +48,7 @@ module _ (K : Kinds) (rows : Rows) (c : Guaranteed K rows) (s : Scalars K) where
   by_number_meant compared k m e = let z : true ≡ false = cc in never z
 
   -- "number / kind is power −1"
-  number_by_meant : (b : Binary) (k m : ℕ) → with_number K b k (power K 5 k (some inverse)) ≡ given m → binary_of K b plain (meaning K (Kind k)) ≡ given (meaning K (Kind m))
+  number_by_meant : (b : Binary) (k m : ℕ) → with_number K b k (power K 5 k (Some inverse)) ≡ given m → binary_of K b plain (meaning K (Kind k)) ≡ given (meaning K (Kind m))
   unfolding with_number binary_of product_of
   number_by_meant (combined (multiplied Mul)) k m e = scaled_meant 4 k m e
   number_by_meant (combined (multiplied Div)) k m e = ap given (power_meant K rows c s 5 k m inverse (omega arith) e)
@@ -72,7 +73,7 @@ module _ (K : Kinds) (rows : Rows) (c : Guaranteed K rows) (s : Scalars K) where
       alone compared = refl
   binary_meant b (Kind l) (Kind r) a e = let h = made (two_kinds K rows b l r) a e in rw (← h.2) (two_meant b l r h.0 h.1)
   binary_meant b (Kind k) Number a e = let h = made (with_number K b k (scaled K 5 k)) a e in rw (← h.2) (by_number_meant b k h.0 h.1)
-  binary_meant b Number (Kind k) a e = let h = made (with_number K b k (power K 5 k (some inverse))) a e in rw (← h.2) (number_by_meant b k h.0 h.1)
+  binary_meant b Number (Kind k) a e = let h = made (with_number K b k (power K 5 k (Some inverse))) a e in rw (← h.2) (number_by_meant b k h.0 h.1)
 
   one_meant : (u : Unary) (k m : ℕ) → in_limits u ≡ true → one_kind K u k ≡ given m → unary_of u (meaning K (Kind k)) ≡ given (meaning K (Kind m))
   unfolding one_kind unary_of power
@@ -108,5 +109,5 @@ module _ (K : Kinds) (rows : Rows) (c : Guaranteed K rows) (s : Scalars K) where
   formula_meant toks t e = go (malformed_at toks) refl
     where
       go : (o : Option ℕ) → malformed_at toks ≡ o → calculation K toks ≡ answered (meaning K t)
-      go none p = walk_follows (terms K rows) (meanings K) (meaning K) follows toks 0 [] t (rw p at e)
-      go (some q) p = let y : malformed q ≡ answered t = rw p at e in let z : true ≡ false = cc in never z
+      go None p = walk_follows (terms K rows) (meanings K) (meaning K) follows toks 0 [] t (rw p at e)
+      go (Some q) p = let y : malformed q ≡ answered t = rw p at e in let z : true ≡ false = cc in never z

@@ -4,7 +4,8 @@ use Prim.Native.Nat.{ℕ}
 use mathlib.Core.Path.{◌≡◌, refl, sym}
 use mathlib.Core.Bool.{Bool, true, false, not, ◌&&◌, true≢false}
 use mathlib.Core.List.{List}
-use mathlib.Core.Option.{Option, some, none}
+use Rattle.std.specs.declared.option.Option.{Option}
+use Rattle.std.specs.declared.option.Option.TheVariants.{None, Some}
 use lib.Dec.{eqb, ltb, leb}
 use lib.ListN.{length, get_or-eq_default}
 use borrow.Author.Tests.{eqb-true, ltb-true, ltb-false, leb-true}
@@ -33,7 +34,7 @@ module _ (K : Kinds) where
   fine_difference k d = ltb d K.count && same_dims (K.dims d) (K.dims k)
 
   abbrev aims : ℕ → ℕ → Dimensions → Bool
-  aims k t a = found (duration K) (λ d. found (K.dims d) (λ b. carries K (record { dims = (D.product a b).value; grade = K.grade k }) t) true) true
+  aims k t a = found (duration K) (λ d. found (K.dims d) (λ b. carries K (record { dims = D.or_one (D.product a b); grade = K.grade k }) t) true) true
 
   abbrev rate_fine : ℕ → ℕ → Bool
   rate_fine k t = ltb k K.count && ltb t K.count && not (point K k) && not (point K t) && found (K.dims k) (aims k t) false
@@ -47,18 +48,18 @@ module _ (K : Kinds) where
       && found (K.rate k) (λ j. meant k (K.rate_of j)) true
 
   abbrev pub one_fine : ℕ → Bool
-  one_fine o = ltb o K.count && not (point K o) && same_dims (K.dims o) (some D.one)
+  one_fine o = ltb o K.count && not (point K o) && same_dims (K.dims o) (Some D.one)
 
   -- ---- what they tell
-  at_found : {A : Type 0} (o : Option A) (f : A → Bool) (b : Bool) {a : A} → o ≡ some a → found o f b ≡ true → f a ≡ true
+  at_found : {A : Type 0} (o : Option A) (f : A → Bool) (b : Bool) {a : A} → o ≡ Some a → found o f b ≡ true → f a ≡ true
   at_found o f b p e = rw p at e
 
-  no_point : (k : ℕ) → not (point K k) ≡ true → K.difference k ≡ none
+  no_point : (k : ℕ) → not (point K k) ≡ true → K.difference k ≡ None
   no_point k e = go (K.difference k) refl
     where
-      go : (d : Option ℕ) → K.difference k ≡ d → K.difference k ≡ none
-      go none p = p
-      go (some d) p = let z : false ≡ true = rw p at e in absurd (true≢false (sym z))
+      go : (d : Option ℕ) → K.difference k ≡ d → K.difference k ≡ None
+      go None p = p
+      go (Some d) p = let z : false ≡ true = rw p at e in absurd (true≢false (sym z))
 
   dims_told : (a : Dimensions) → dims_fine a ≡ true → D.Declared a
   dims_told a e = record {
@@ -85,8 +86,8 @@ module _ (K : Kinds) where
       v = and_right (ltb k K.count && ltb t K.count && not (point K k) && not (point K t)) _ e
 
       go : (u : Option Dimensions) → K.dims k ≡ u → IsRate K k t
-      go none p = let z : false ≡ true = rw p at v in absurd (true≢false (sym z))
-      go (some a) p = record {
+      go None p = let z : false ≡ true = rw p at v in absurd (true≢false (sym z))
+      go (Some a) p = record {
         below = (ltb-true k K.count (and_left (ltb k K.count) _ y), ltb-true t K.count (and_right (ltb k K.count) _ y));
         no_points = (no_point k (and_right (ltb k K.count && ltb t K.count) _ x), no_point t (and_right (ltb k K.count && ltb t K.count && not (point K k)) _ w));
         dims = a;
@@ -125,7 +126,7 @@ module _ (K : Kinds) where
         (and_left a b y, and_right a b y, and_right (a && b) c x, and_right (a && b && c) d w, and_right (a && b && c && d) _ e)
 
   pub tested : (rows : Rows) → ((k : ℕ) → kind_fine k ≡ true) → found K.dimensionless one_fine true ≡ true
-      → ((l : ℕ) (op : ProductOp) (r k : ℕ) → rows l op r ≡ some k → IsRow K l op r k) → Guaranteed K rows
+      → ((l : ℕ) (op : ProductOp) (r k : ℕ) → rows l op r ≡ Some k → IsRow K l op r k) → Guaranteed K rows
   tested rows f o r = record {
     grade = λ k. leb-true (K.grade k) 3 (split k (f k)).0;
     declared = λ k a p. dims_told a (at_found (K.dims k) dims_fine true p (split k (f k)).1);
@@ -144,13 +145,13 @@ module _ (K : Kinds) where
   unfoldable pub point_fine : ℕ → Bool
   point_fine k = found (K.difference k) (λ d. eqb (K.grade d) (K.grade k)) true
 
-  pub one_scalar : found K.dimensionless scalar true ≡ true → (o : ℕ) → K.dimensionless ≡ some o → K.grade o ≡ 0
+  pub one_scalar : found K.dimensionless scalar true ≡ true → (o : ℕ) → K.dimensionless ≡ Some o → K.grade o ≡ 0
   one_scalar e o p = eqb-true (K.grade o) 0 (at_found K K.dimensionless scalar true p e)
 
-  pub duration_scalar : found (duration K) scalar true ≡ true → (d : ℕ) → duration K ≡ some d → K.grade d ≡ 0
+  pub duration_scalar : found (duration K) scalar true ≡ true → (d : ℕ) → duration K ≡ Some d → K.grade d ≡ 0
   duration_scalar e d p = eqb-true (K.grade d) 0 (at_found K (duration K) scalar true p e)
 
-  pub points_graded : ((k : ℕ) → point_fine k ≡ true) → (k d : ℕ) → K.difference k ≡ some d → K.grade d ≡ K.grade k
+  pub points_graded : ((k : ℕ) → point_fine k ≡ true) → (k d : ℕ) → K.difference k ≡ Some d → K.grade d ≡ K.grade k
   unfolding point_fine
   points_graded f k d p = eqb-true (K.grade d) (K.grade k) (at_found K (K.difference k) (λ d. eqb (K.grade d) (K.grade k)) true p (f k))
 

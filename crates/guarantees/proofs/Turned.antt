@@ -2,7 +2,8 @@
 use Prim.Native.Nat.{ℕ}
 use mathlib.Core.Path.{◌≡◌, refl, sym, ◌∙◌, ap}
 use mathlib.Core.Bool.{Bool, true, false, cond}
-use mathlib.Core.Option.{Option, some, none}
+use Rattle.std.specs.declared.option.Option.{Option}
+use Rattle.std.specs.declared.option.Option.TheVariants.{None, Some}
 use lib.Dec.{eqb}
 use borrow.Author.Tests.{eqb-true}
 use Rattle.laws.specs.Options.{found}
@@ -17,11 +18,11 @@ use Rattle.guarantees.proofs.Derived.{derive_turned}
 
 -- which of two places is d, and f of the other
 place_turned : (d : ℕ) (f : ℕ → Option ℕ) (l r : ℕ)
-    → cond (eqb l d) (f r) (cond (eqb r d) (f l) none) ≡ cond (eqb r d) (f l) (cond (eqb l d) (f r) none)
+    → cond (eqb l d) (f r) (cond (eqb r d) (f l) None) ≡ cond (eqb r d) (f l) (cond (eqb l d) (f r) None)
 place_turned d f l r = go (eqb l d) refl (eqb r d) refl
   where
     go : (s : Bool) → eqb l d ≡ s → (t : Bool) → eqb r d ≡ t
-        → cond (eqb l d) (f r) (cond (eqb r d) (f l) none) ≡ cond (eqb r d) (f l) (cond (eqb l d) (f r) none)
+        → cond (eqb l d) (f r) (cond (eqb r d) (f l) None) ≡ cond (eqb r d) (f l) (cond (eqb l d) (f r) None)
     go true p true q = let z : r ≡ l = eqb-true r d q ∙ sym (eqb-true l d p) in rw (p, q) (ap f z)
     go true p false q = rw (p, q)
     go false p true q = rw (p, q)
@@ -29,7 +30,7 @@ place_turned d f l r = go (eqb l d) refl (eqb r d) refl
 
 neutral_turned : (op : ProductOp) (o l r : ℕ) → (op ≡ Div → ⊥) → neutral_by op o r l ≡ neutral_by op o l r
 unfolding neutral_by
-neutral_turned Mul o l r n = place_turned o some l r
+neutral_turned Mul o l r n = place_turned o Some l r
 neutral_turned Div o l r n = absurd (n refl)
 neutral_turned Dot o l r n = refl
 neutral_turned Wedge o l r n = refl
@@ -41,9 +42,9 @@ rated_turned K Div d l r n = absurd (n refl)
 rated_turned K Dot d l r n = refl
 rated_turned K Wedge d l r n = refl
 
-found_same : (o : Option ℕ) (f g : ℕ → Option ℕ) → ((k : ℕ) → f k ≡ g k) → found o f none ≡ found o g none
-found_same none f g h = refl
-found_same (some k) f g h = h k
+found_same : (o : Option ℕ) (f g : ℕ → Option ℕ) → ((k : ℕ) → f k ≡ g k) → found o f None ≡ found o g None
+found_same None f g h = refl
+found_same (Some k) f g h = h k
 
 module _ (K : Kinds) (l : ℕ) (op : ProductOp) (r : ℕ) (n : op ≡ Div → ⊥) where
   neutrals : neutral K r op l ≡ neutral K l op r
@@ -58,7 +59,7 @@ module _ (K : Kinds) (l : ℕ) (op : ProductOp) (r : ℕ) (n : op ≡ Div → �
   unfolding resolve
   resolve_turned x = rw (neutrals, rates)
 
-  pub row_turned : ((k : ℕ) (a : Dimensions) → K.dims k ≡ some a → D.Sound a) → {k : ℕ} → IsRow K l op r k → IsRow K r op l k
+  pub row_turned : ((k : ℕ) (a : Dimensions) → K.dims k ≡ Some a → D.Sound a) → {k : ℕ} → IsRow K l op r k → IsRow K r op l k
   row_turned sound {k} h = record {
     below = h.below;
     no_point = h.no_point;

@@ -3,7 +3,8 @@ use Prim.Native.Nat.{ℕ, ◌<◌, ◌≤◌}
 use mathlib.Core.Path.{◌≡◌, refl, sym, ◌∙◌}
 use mathlib.Core.Bool.{Bool, true, false, true≢false}
 use mathlib.Core.List.{List, [], ◌∷◌}
-use mathlib.Core.Option.{Option, some, none}
+use Rattle.std.specs.declared.option.Option.{Option}
+use Rattle.std.specs.declared.option.Option.TheVariants.{None, Some}
 use native.Mathlib.Omega.{arith}
 use lib.Dec.{eqb}
 use lib.ListN.{length, get_or}
@@ -58,27 +59,27 @@ module _ (K : Kinds) (k a : ℕ) (f : Rational) (ks : List ℕ) where
   unfolding raised operand
   of_raised e x = go (eqb (K.grade k) 0) refl (K.dims k) refl
     where
-      fit : (d : Dimensions) → K.dims k ≡ some d → eqb (K.grade k) 0 ≡ true → (w : Bool) → (D.power d e).over ≡ w → (n : Option ℕ) → neutral_power K k e ≡ n
-          → (js : List ℕ) → candidates K (record { dims = (D.power d e).value; grade = 0 }) ≡ js → Told
-      fit d q g true w n v js u = let z : true ≡ false = cc in never z
-      fit d q g false w (some j) v js u = let z : true ≡ false = cc in never z
-      fit d q g false w none v [] u = let z : true ≡ false = cc in never z
-      fit d q g false w none v (j ∷ []) u = let z : true ≡ false = cc in never z
-      fit d q g false w none v (j ∷ i ∷ js) u =
+      fit : (d : Dimensions) → K.dims k ≡ Some d → eqb (K.grade k) 0 ≡ true → (w : Option Dimensions) → D.power d e ≡ w → (n : Option ℕ) → neutral_power K k e ≡ n
+          → (js : List ℕ) → candidates K (record { dims = D.or_one w; grade = 0 }) ≡ js → Told
+      fit d q g None w n v js u = let z : true ≡ false = cc in never z
+      fit d q g (Some c) w (Some j) v js u = let z : true ≡ false = cc in never z
+      fit d q g (Some c) w None v [] u = let z : true ≡ false = cc in never z
+      fit d q g (Some c) w None v (j ∷ []) u = let z : true ≡ false = cc in never z
+      fit d q g (Some c) w None v (j ∷ i ∷ js) u =
           let z : ks ≡ j ∷ i ∷ js = cc in
-          (record { dims = (D.power d e).value; grade = 0 }, record { are = z ∙ sym u; several = rw z (omega arith) })
+          (record { dims = c; grade = 0 }, record { are = z ∙ sym u; several = rw z (omega arith) })
 
       go : (t : Bool) → eqb (K.grade k) 0 ≡ t → (u : Option Dimensions) → K.dims k ≡ u → Told
       go false g u q = let z : true ≡ false = cc in never z
-      go true g none q = let z : true ≡ false = cc in never z
-      go true g (some d) q = fit d q g (D.power d e).over refl (neutral_power K k e) refl (candidates K (record { dims = (D.power d e).value; grade = 0 })) refl
+      go true g None q = let z : true ≡ false = cc in never z
+      go true g (Some d) q = fit d q g (D.power d e) refl (neutral_power K k e) refl (candidates K (record { dims = D.or_one (D.power d e); grade = 0 })) refl
 
   pub of_power : (code : ℕ) (o : Option Rational) → power K code k o ≡ refused (UnresolvedPowerTwin a f ks) → Told
   unfolding power scaled
-  of_power code none x = let z : true ≡ false = cc in never z
-  of_power code (some e) x = go (K.difference k) refl (F.is_one e) refl
+  of_power code None x = let z : true ≡ false = cc in never z
+  of_power code (Some e) x = go (K.difference k) refl (F.is_one e) refl
     where
       go : (d : Option ℕ) → K.difference k ≡ d → (t : Bool) → F.is_one e ≡ t → Told
-      go (some d) p t q = let z : true ≡ false = cc in never z
-      go none p true q = let z : true ≡ false = cc in never z
-      go none p false q = of_raised e (rw (p, q) at x)
+      go (Some d) p t q = let z : true ≡ false = cc in never z
+      go None p true q = let z : true ≡ false = cc in never z
+      go None p false q = of_raised e (rw (p, q) at x)

@@ -3,7 +3,8 @@ use Prim.Native.Nat.{ℕ, suc, ◌+◌, ◌*◌, ◌/◌, ◌<◌, ◌≤◌}
 use mathlib.Core.Path.{◌≡◌, refl, sym, ◌∙◌, subst}
 use mathlib.Core.Bool.{true, true≢false}
 use mathlib.Core.List.{List}
-use mathlib.Core.Option.{Option, some, none}
+use Rattle.std.specs.declared.option.Option.{Option}
+use Rattle.std.specs.declared.option.Option.TheVariants.{None, Some}
 use native.Mathlib.Nat.{le_trans}
 use native.Mathlib.Decide.{dec_le}
 use native.Mathlib.Omega.{arith}
@@ -60,36 +61,36 @@ module _ (C : Catalog) (passed : Passed C) (fit : Fits C) where
   K = kinds_of C
 
   -- ---- kinds
-  fitting_difference : (k d : ℕ) → K.difference k ≡ some d → FittingDifference K k d
+  fitting_difference : (k d : ℕ) → K.difference k ≡ Some d → FittingDifference K k d
   fitting_difference k d e =
       let h = difference_tells C k d (passed.differences k (difference_in C fit.quiet k e)) e in
       record { below = h.0.below; dims = h.0.dims; no_point = h.1 }
 
-  fitting_rate : (k t : ℕ) → K.rate_of k ≡ some t → FittingRate K k t
+  fitting_rate : (k t : ℕ) → K.rate_of k ≡ Some t → FittingRate K k t
   fitting_rate k t e =
       let b = target_in C fit.quiet k e in
       let h = rate_tells C k t b (passed.rates k b) e in
       let o = h.1 in
-      let c = carries_tells K (record { dims = (D.product h.0.dims o.1).value; grade = K.grade k }) t (h.0.fits o.0 o.1 o.2 o.3) in
+      let c = carries_tells K (record { dims = (D.or_one (D.product h.0.dims o.1)); grade = K.grade k }) t (h.0.fits o.0 o.1 o.2 o.3) in
       record { no_points = h.0.no_points; over = o.0; timed = o.2; rate_dims = h.0.dims; over_dims = o.1; resolved = (h.0.resolved, o.3); dims = c.dims; grades = c.grade }
 
-  one_rate : (j k t : ℕ) → K.rate_of j ≡ some t → K.rate_of k ≡ some t → j ≡ k
+  one_rate : (j k t : ℕ) → K.rate_of j ≡ Some t → K.rate_of k ≡ Some t → j ≡ k
   one_rate j k t p q = one j k (λ l. one_earlier C j k t (alone k q) l p) (λ l. one_earlier C k j t (alone j p) l q)
     where
-      alone : (i : ℕ) → K.rate_of i ≡ some t → rate_among C i t ≡ none
+      alone : (i : ℕ) → K.rate_of i ≡ Some t → rate_among C i t ≡ None
       alone i e = let b = target_in C fit.quiet i e in (rate_tells C i t b (passed.rates i b) e).2
 
-  linear_one_law : (o : ℕ) → K.dimensionless ≡ some o → LinearOne K o
+  linear_one_law : (o : ℕ) → K.dimensionless ≡ Some o → LinearOne K o
   linear_one_law o e =
       let h = dimensionless_tells C o passed.dimensionless e in
       record { below = h.0.below; no_point = h.0.linear; no_difference = no_difference C fit.quiet o h.1; dims = h.0.dims }
 
-  scalar_point : (t : ℕ) → K.time ≡ some t → ScalarPoint K t
+  scalar_point : (t : ℕ) → K.time ≡ Some t → ScalarPoint K t
   scalar_point t e = let h = time_tells C t passed.time e in let p = there (K.difference t) h.0 in record { over = p.0; is_point = p.1; scalar = h.1 }
     where
-      there : (o : Option ℕ) → is_some o ≡ true → (d : ℕ) × (o ≡ some d)
-      there (some d) e = (d, refl)
-      there none e = absurd (true≢false (sym e))
+      there : (o : Option ℕ) → is_some o ≡ true → (d : ℕ) × (o ≡ Some d)
+      there (Some d) e = (d, refl)
+      there None e = absurd (true≢false (sym e))
 
   -- ---- rows
   accepted : (i : ℕ) → i < C.row_count → Accepted C i
@@ -101,7 +102,7 @@ module _ (C : Catalog) (passed : Passed C) (fit : Fits C) where
     where
       before : (i j : ℕ) → i < j → j < C.row_count → covers C l op r (C.row i) ≡ true → covers C l op r (C.row j) ≡ true → ⊥
       before i j m h p q =
-          let n : row_among C j l op r ≡ none = covered_only C j (accepted j h) l op r (covers_tells C l op r (C.row j) q) in
+          let n : row_among C j l op r ≡ None = covered_only C j (accepted j h) l op r (covers_tells C l op r (C.row j) q) in
           true≢false (sym p ∙ first_misses (λ k. covers C l op r (C.row k)) j i n m)
 
   -- ---- the words
@@ -140,17 +141,17 @@ module _ (C : Catalog) (passed : Passed C) (fit : Fits C) where
         one m n (λ l. earlier (in_force C) n (firsts.2 n b) m l u v w) (λ l. earlier (in_force C) m (firsts.2 m a) n l (sym u) (sym v) (sym w))
 
     -- what the first entry for a pair says is in force
-    said : (m : ℕ) → m < firsts.0 → (f : First (in_force C) m) → rows_of C f.left f.op f.right ≡ some (word (in_force C) (4 * m + 3))
+    said : (m : ℕ) → m < firsts.0 → (f : First (in_force C) m) → rows_of C f.left f.op f.right ≡ Some (word (in_force C) (4 * m + 3))
     unfolding table.rows_of
     said m h f =
         let i = entries_in_law C C.row_count in
         let k : word (in_force C) (4 * m + 3) < C.kind_count = (i.2 m (omega (arith, h, i.1, firsts.1))).3 in
         let b : word (in_force C) (4 * m + 3) < absent = le_trans k (le_trans fit.kinds (omega arith)) in
         let g = first_here (is_row (in_force C) f.left f.op f.right) m firsts.0 h f.none_before refl f.is in
-        let e : table.rows_of (in_force C) f.left f.op f.right ≡ some (word (in_force C) (4 * m + 3)) = rw (quarter (length (in_force C)) firsts.0 firsts.1, g, lt-ltb (word (in_force C) (4 * m + 3)) absent b) in
+        let e : table.rows_of (in_force C) f.left f.op f.right ≡ Some (word (in_force C) (4 * m + 3)) = rw (quarter (length (in_force C)) firsts.0 firsts.1, g, lt-ltb (word (in_force C) (4 * m + 3)) absent b) in
         rw (← rows_said C passed fit.kinds) e
 
-    entry : (m : ℕ) → m < word t 1 → (op : ProductOp) × (row_entry t m 1 ≡ op_word op) × (rows_of C (row_entry t m 0) op (row_entry t m 2) ≡ some (row_entry t m 3))
+    entry : (m : ℕ) → m < word t 1 → (op : ProductOp) × (row_entry t m 1 ≡ op_word op) × (rows_of C (row_entry t m 0) op (row_entry t m 2) ≡ Some (row_entry t m 3))
     entry m h =
         let a : m < firsts.0 = rw count at h in
         let f = firsts.2 m a in

@@ -4,7 +4,7 @@ use Prim.Native.Nat.{ℕ, zero, suc, ◌/◌, ◌<◌, ◌≤◌}
 use mathlib.Core.Path.{◌≡◌, refl, ◌∙◌, ap}
 use mathlib.Core.Bool.{true}
 use mathlib.Core.List.{List, [], ◌∷◌, ◌++◌, zip_with}
-use mathlib.Core.Option.{some, none}
+use Rattle.std.specs.declared.option.Option.TheVariants.{None, Some}
 use native.Mathlib.Nat.{not-suc-le-zero}
 use native.Mathlib.Omega.{arith}
 use lib.ListN.{length, replicate}
@@ -44,11 +44,11 @@ unfolding larger_image
 larger_bytes = small_bytes larger_image refl
 
 -- ---- it compiles
-blocks_right : first (sum_wrong larger_image) (length larger_image / 512) ≡ none
+blocks_right : first (sum_wrong larger_image) (length larger_image / 512) ≡ None
 unfolding sum_wrong block_sum sum le2 le4 first larger_image
 blocks_right = refl
 
-layout_right : first (byte_wrong larger_image) (length larger_image) ≡ none
+layout_right : first (byte_wrong larger_image) (length larger_image) ≡ None
 unfolding byte_wrong block_wrong header_wrong kind_wrong row_wrong ids_wrong id_wrong exponent_wrong block_head_wrong filled le2 first larger_image
 layout_right = refl
 
@@ -100,7 +100,7 @@ twins_said : formula_in teaching no_rows area_by_bore ≡ refused (fault 2 (Unre
 unfolding formula_in formula good_length tokens_in token_at token_by unused_zero token.exponent_at le2 le4 malformed_at walk shape terms kind_term indexed binary_term two_kinds combine product derive operand graded grade_by joined neutral neutral_by rated rated_by resolve fits carries picked teaching listed tab D.product D.outcome D.equal G.product F.sum F.answer F.limited F.within F.lowest F.equal gcd euclid zip_with
 twins_said = refl
 
-pub row_there : larger.rows 6 Mul 7 ≡ some 1
+pub row_there : larger.rows 6 Mul 7 ≡ Some 1
 unfolding rows_of row_among covers names find same catalog_in below kind_from row_from op_of id_at tab first le2 larger_image
 row_there = refl
 

@@ -1,6 +1,6 @@
 -- A formula where it comes to a product of two kinds.
 use Rattle.std.specs.Prelude.{ℕ, suc, ◌≡◌, List, [], ◌∷◌, ◌++◌, length}
-use Rattle.std.proofs.Math.Option.{some, none}
+use Rattle.std.specs.declared.option.Option.TheVariants.{None, Some}
 use Rattle.dimension.specs.declared.grade.ProductOp.{ProductOp}
 use Rattle.rules.specs.Kinds.{Kinds, Rows}
 use Rattle.rules.specs.Arithmetic.{multiplied}
@@ -12,8 +12,8 @@ times_token op = binary (combined (multiplied op))
 
 -- the tokens `before`, then the product, then `rest`: no 50, and the kinds l and r are on top of what is held
 pub record AtProduct (K : Kinds) (rows : Rows) (before : List Token) (l : ℕ) (op : ProductOp) (r : ℕ) (rest : List Token) (below : List Term) : Type 0 where
-  pub well_formed : malformed_at (before ++ (times_token op ∷ rest)) ≡ none
-  pub held : reached (terms K rows) before [] ≡ some (Kind r ∷ Kind l ∷ below)
+  pub well_formed : malformed_at (before ++ (times_token op ∷ rest)) ≡ None
+  pub held : reached (terms K rows) before [] ≡ Some (Kind r ∷ Kind l ∷ below)
 
 -- "lifted at its token": token p is that product of l and r, which both catalogs come to with the same terms held; the larger goes on from it with
 -- the kind k of its row in their place
@@ -23,6 +23,6 @@ pub record LiftedTo (K : Kinds) (small large : Rows) (toks : List Token) (p l : 
   pub below : List Term
   pub splits : toks ≡ before ++ (times_token op ∷ rest)
   pub place : length before ≡ p
-  pub held : reached (terms K small) before [] ≡ some (Kind r ∷ Kind l ∷ below)
-  pub held_too : reached (terms K large) before [] ≡ some (Kind r ∷ Kind l ∷ below)
+  pub held : reached (terms K small) before [] ≡ Some (Kind r ∷ Kind l ∷ below)
+  pub held_too : reached (terms K large) before [] ≡ Some (Kind r ∷ Kind l ∷ below)
   pub goes_on : formula K large toks ≡ walk (terms K large) rest (suc p) (Kind k ∷ below)

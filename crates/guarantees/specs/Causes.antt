@@ -1,6 +1,7 @@
 -- "each refusal number arises for its cause and for no other": what a refusal's number tells. proofs/Causes shows it of every refusal.
 use Rattle.std.specs.Prelude.{ℕ, ◌≡◌, List, [], ◌∷◌, get_or}
-use Rattle.std.proofs.Math.Option.{Option, some, none}
+use Rattle.std.specs.declared.option.Option.{Option}
+use Rattle.std.specs.declared.option.Option.TheVariants.{None, Some}
 use Rattle.rules.specs.Refusal.{Refusal, told}
 use Rattle.rules.specs.Refusal as refusal
 
@@ -56,21 +57,21 @@ cause_of (refusal.Malformed p) = Malformed
 -- the cause that has this number
 abbrev pub causes : List (Option Cause)
 causes =
-    none ∷ some ImageLength ∷ some WrongBlock ∷ some Schema ∷ some WrongByte ∷ some Short ∷ none ∷ none ∷ none ∷ none
-    ∷ some EmptyId ∷ some Duplicate ∷ some Unknown ∷ some AffineDimensionMismatch ∷ some NestedAffineSpace
-    ∷ some InvalidDimensionlessKind ∷ some InvalidTimeKind ∷ some NoTimeKind ∷ some PointRate ∷ some UnresolvedDimensions
-    ∷ some RateMismatch ∷ some AlsoRateOf ∷ some CommutativeQuotient ∷ some Point ∷ some Ungraded
-    ∷ some InvalidOperationRule ∷ some DerivedOperationRule ∷ some ConflictingOperationRule ∷ some PowerOverLimits ∷ none
-    ∷ none ∷ none ∷ none ∷ none ∷ none ∷ none ∷ none ∷ none ∷ none ∷ none
-    ∷ some NoTable ∷ some NoKind ∷ some KindMismatch ∷ some UnsupportedOperation ∷ some UnresolvedTwin ∷ some NoProductKind
-    ∷ some UngradedPower ∷ some NoPowerKind ∷ some UnresolvedPowerTwin ∷ some NumberTerm ∷ some Malformed ∷ []
+    None ∷ Some ImageLength ∷ Some WrongBlock ∷ Some Schema ∷ Some WrongByte ∷ Some Short ∷ None ∷ None ∷ None ∷ None
+    ∷ Some EmptyId ∷ Some Duplicate ∷ Some Unknown ∷ Some AffineDimensionMismatch ∷ Some NestedAffineSpace
+    ∷ Some InvalidDimensionlessKind ∷ Some InvalidTimeKind ∷ Some NoTimeKind ∷ Some PointRate ∷ Some UnresolvedDimensions
+    ∷ Some RateMismatch ∷ Some AlsoRateOf ∷ Some CommutativeQuotient ∷ Some Point ∷ Some Ungraded
+    ∷ Some InvalidOperationRule ∷ Some DerivedOperationRule ∷ Some ConflictingOperationRule ∷ Some PowerOverLimits ∷ None
+    ∷ None ∷ None ∷ None ∷ None ∷ None ∷ None ∷ None ∷ None ∷ None ∷ None
+    ∷ Some NoTable ∷ Some NoKind ∷ Some KindMismatch ∷ Some UnsupportedOperation ∷ Some UnresolvedTwin ∷ Some NoProductKind
+    ∷ Some UngradedPower ∷ Some NoPowerKind ∷ Some UnresolvedPowerTwin ∷ Some NumberTerm ∷ Some Malformed ∷ []
 
 unfoldable pub cause_by : ℕ → Option Cause
-cause_by n = get_or causes n none
+cause_by n = get_or causes n None
 
 -- a number tells the cause, and two refusals with one number have one cause
 abbrev pub NumberTells : Type 0
-NumberTells = (x : Refusal) → cause_by (told x).number ≡ some (cause_of x)
+NumberTells = (x : Refusal) → cause_by (told x).number ≡ Some (cause_of x)
 
 abbrev pub OneCause : Type 0
 OneCause = (x y : Refusal) → (told x).number ≡ (told y).number → cause_of x ≡ cause_of y

@@ -1,12 +1,11 @@
 -- Demand 3, one claim about a whole token list: the same tokens over the same kinds K, with the rows of the smaller and of the larger catalog. Its
 -- first sentence, "Every formula is answered as 01's steps say", is what the contract of the formula's function says. The proof is in proofs/.
 use Rattle.std.specs.Prelude.{ℕ, ◌<◌, ◌≡◌, true, false, List, ◌∷◌, ◌++◌, length}
-use Rattle.std.proofs.Math.Option.{some, none}
+use Rattle.std.specs.declared.option.Option.TheVariants.{None, Some}
 use Rattle.laws.specs.Options.{is_some}
 use Rattle.laws.specs.Out.{refused}
 use Rattle.dimension.specs.declared.dimensions.Dimensions.{Dimensions}
 use Rattle.dimension.specs.declared.grade.ProductOp.{ProductOp}
-use Rattle.dimension.specs.declared.grade.Grade.TheVariants.{Single}
 use Rattle.rules.specs.Kinds.{Kinds, Rows, Graded, carries}
 use Rattle.rules.specs.Refusal.{Refusal, UnresolvedTwin, NoProductKind}
 use Rattle.rules.specs.Arithmetic.{grade_by, joined, product}
@@ -17,17 +16,17 @@ use Rattle.guarantees.specs.AtToken.{times_token, AtProduct, LiftedTo}
 
 -- "no non-point kind carries both"
 abbrev pub NoneCarries : Kinds → Graded → Type 0
-NoneCarries K x = (k : ℕ) → k < K.count → K.difference k ≡ none → carries K x k ≡ true → ⊥
+NoneCarries K x = (k : ℕ) → k < K.count → K.difference k ≡ None → carries K x k ≡ true → ⊥
 
 -- "Two non-point kinds whose product has a dimension and grade": "both kinds' dimensions are given and the grade rule answers"
 pub record HasProduct (K : Kinds) (l : ℕ) (op : ProductOp) (r : ℕ) (x : Graded) : Type 0 where
-  pub no_points : (K.difference l ≡ none) × (K.difference r ≡ none)
+  pub no_points : (K.difference l ≡ None) × (K.difference r ≡ None)
   pub left : Dimensions
   pub right : Dimensions
-  pub gives_left : K.dims l ≡ some left
-  pub gives_right : K.dims r ≡ some right
+  pub gives_left : K.dims l ≡ Some left
+  pub gives_right : K.dims r ≡ Some right
   pub dims : x.dims ≡ joined op left right
-  pub grade : grade_by K op (K.grade l) (K.grade r) ≡ Single x.grade
+  pub grade : grade_by K op (K.grade l) (K.grade r) ≡ Some x.grade
 
 -- "no product kind" is said of x where none carries it; and where it is said of any y, this is x and none carries it
 abbrev pub Exactly : Kinds → (Graded → Type 0) → Graded → Type 0
@@ -53,7 +52,7 @@ pub record Demand3 (K : Kinds) (small large : Rows) (toks : List Token) : Type 0
   -- comes past the token exactly then, going on with the row's kind
   pub lifted : (p l : ℕ) (op : ProductOp) (r : ℕ) (ks : List ℕ) → formula K small toks ≡ stopped p (UnresolvedTwin l op r ks)
       → past p (formula K large toks) ≡ is_some (large l op r)
-  pub lifted_to : (p l : ℕ) (op : ProductOp) (r k : ℕ) (ks : List ℕ) → formula K small toks ≡ stopped p (UnresolvedTwin l op r ks) → large l op r ≡ some k
+  pub lifted_to : (p l : ℕ) (op : ProductOp) (r k : ℕ) (ks : List ℕ) → formula K small toks ≡ stopped p (UnresolvedTwin l op r ks) → large l op r ≡ Some k
       → LiftedTo K small large toks p l op r k
   -- "otherwise it stays as it was, like every other refusal: number, place, what is returned and the twin list", all of which p and x tell
   pub otherwise : (p : ℕ) (x : Refusal) → formula K small toks ≡ stopped p x → lifts large x ≡ false → formula K large toks ≡ stopped p x

@@ -1,6 +1,6 @@
 -- Rows added: what a larger catalog has, and which refusals it lifts.
 use Rattle.std.specs.Prelude.{ℕ, ◌≡◌, Bool, false}
-use Rattle.std.proofs.Math.Option.{some}
+use Rattle.std.specs.declared.option.Option.TheVariants.{Some}
 use Rattle.laws.specs.Options.{is_some}
 use Rattle.dimension.specs.declared.grade.ProductOp.{ProductOp}
 use Rattle.rules.specs.Kinds.{Rows}
@@ -8,7 +8,7 @@ use Rattle.rules.specs.Refusal.{Refusal, ImageLength, WrongBlock, Schema, WrongB
 
 -- "the larger has every row of the smaller": every kind that the smaller's rows name, the larger's name too
 abbrev pub Extends : Rows → Rows → Type 0
-Extends small large = (l : ℕ) (op : ProductOp) (r k : ℕ) → small l op r ≡ some k → large l op r ≡ some k
+Extends small large = (l : ℕ) (op : ProductOp) (r k : ℕ) → small l op r ≡ Some k → large l op r ≡ Some k
 
 -- "An "unresolved twin" is lifted at its token exactly when the larger catalog has a row for that very left, operation and right", and no other
 -- refusal is

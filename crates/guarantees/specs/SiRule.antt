@@ -1,7 +1,7 @@
 -- "the SI rule for products, quotients and powers as the registry uses it": SI Brochure, 9th edition, 2.3.3, base by base and as values, of what the
 -- rules derive and of the kinds they answer. proofs/SiRule shows it of every image that compiles (`image_si`).
 use Rattle.std.specs.Prelude.{ℕ, ◌<◌, ◌≡◌, false}
-use Rattle.std.proofs.Math.Option.{some}
+use Rattle.std.specs.declared.option.Option.TheVariants.{Some}
 use Rattle.laws.specs.Out.{given}
 use Rattle.dimension.specs.Fraction as F
 use Rattle.dimension.specs.Dimension as D
@@ -30,10 +30,10 @@ Multiplies a e x = (i : ℕ) → i < 12 → F.IsProduct (D.exponent a i) e (D.ex
 
 pub record SiRule (K : Kinds) (rows : Rows) : Type 0 where
   -- what two kinds are derived as
-  pub derived : (l : ℕ) (op : ProductOp) (r : ℕ) (x : Graded) (a b : Dimensions) → rule.derive K l op r ≡ given x → K.dims l ≡ some a → K.dims r ≡ some b → JoinsAll op a b x.dims
+  pub derived : (l : ℕ) (op : ProductOp) (r : ℕ) (x : Graded) (a b : Dimensions) → rule.derive K l op r ≡ given x → K.dims l ≡ Some a → K.dims r ≡ Some b → JoinsAll op a b x.dims
   -- and the kind that their product is
-  pub product : Scalars K → (l : ℕ) (op : ProductOp) (r k : ℕ) (a b : Dimensions) → rule.product K rows l op r ≡ given k → K.dims l ≡ some a → K.dims r ≡ some b
-      → (x : Dimensions) × (K.dims k ≡ some x) × JoinsAll op a b x
+  pub product : Scalars K → (l : ℕ) (op : ProductOp) (r k : ℕ) (a b : Dimensions) → rule.product K rows l op r ≡ given k → K.dims l ≡ Some a → K.dims r ≡ Some b
+      → (x : Dimensions) × (K.dims k ≡ Some x) × JoinsAll op a b x
   -- the kind that a power is; "exponent one gives the kind" itself
-  pub power : (code k j : ℕ) (e : Rational) (a : Dimensions) → 0 < e.den → F.is_one e ≡ false → rule.power K code k (some e) ≡ given j → K.dims k ≡ some a
-      → (x : Dimensions) × (K.dims j ≡ some x) × Multiplies a e x
+  pub power : (code k j : ℕ) (e : Rational) (a : Dimensions) → 0 < e.den → F.is_one e ≡ false → rule.power K code k (Some e) ≡ given j → K.dims k ≡ Some a
+      → (x : Dimensions) × (K.dims j ≡ Some x) × Multiplies a e x

@@ -5,6 +5,8 @@ use mathlib.Core.Path.{◌≡◌, ◌∙◌, ap, ap₂}
 use mathlib.Core.Bool.{Bool, false, not, ◌&&◌, ◌||◌, or-false, and-false}
 use mathlib.Core.List.{List}
 use native.Mathlib.Decide.{dec_le}
+use native.Mathlib.Nat.{mul_comm, mul-suc, div-lt_iff_lt-mul}
+use Rattle.std.proofs.lemmas.Nat.{div-mul-add, mod-mul-add, le-div, mul-le, mul-add-lt}
 use native.Mathlib.Omega.{arith}
 use borrow.Author.Tests.{lt-ltb, le-ltb}
 use lib.Dec.{eqb}
@@ -28,28 +30,16 @@ pub record Sized (bytes m : ℕ) : Type 0 where
   pub next : (j : ℕ) → bytes * suc j ≡ bytes * j + bytes
   pub room : 4 + m * bytes ≤ 508
 
-pub kinds_sized : Sized 148 3
-kinds_sized = record {
-  quot = λ j k h. omega arith;
-  rem = λ j k h. omega arith;
-  index = λ x j h. omega arith;
-  count = λ x h. omega arith;
-  inside = λ j k h l. omega arith;
-  upto = λ j h. omega arith;
-  next = λ j. omega arith;
-  room = omega arith;
-}
-
-pub rows_sized : Sized 100 5
-rows_sized = record {
-  quot = λ j k h. omega arith;
-  rem = λ j k h. omega arith;
-  index = λ x j h. omega arith;
-  count = λ x h. omega arith;
-  inside = λ j k h l. omega arith;
-  upto = λ j h. omega arith;
-  next = λ j. omega arith;
-  room = omega arith;
+pub sized : (bytes m : ℕ) → 0 < bytes → bytes * m ≤ 504 → Sized bytes m
+sized bytes m some few = record {
+  quot = λ j k h. rw (mul_comm bytes j) (div-mul-add j bytes k h);
+  rem = λ j k h. rw (mul_comm bytes j) (mod-mul-add j bytes k h);
+  index = λ x j h. le-div j x bytes some (rw (mul_comm bytes j) at h);
+  count = λ x h. (div-lt_iff_lt-mul some).1 h;
+  inside = λ j k h l. let e = mul-add-lt j bytes k m h l in omega (arith, mul_comm bytes j, mul_comm bytes m);
+  upto = λ j h. rw (mul_comm m bytes) (mul-le bytes j bytes m (omega arith) h);
+  next = λ j. mul-suc bytes j;
+  room = omega (arith, mul_comm bytes m);
 }
 
 module _ (wrong : List ℕ → ℕ → ℕ → Bool) (type bytes m n from b : ℕ) (s : List ℕ) (z : Sized bytes m) where

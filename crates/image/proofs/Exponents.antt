@@ -3,7 +3,8 @@ use Prim.Native.Nat.{ℕ, zero, suc, ◌+◌, ◌*◌, ◌-◌, ◌%◌, ◌<◌
 use mathlib.Core.Path.{◌≡◌, refl, ◌∙◌}
 use mathlib.Core.Bool.{Bool, true, false, cond, ◌&&◌, or-false, and-false}
 use mathlib.Core.List.{List}
-use mathlib.Core.Option.{Option, some, none}
+use Rattle.std.specs.declared.option.Option.{Option}
+use Rattle.std.specs.declared.option.Option.TheVariants.{None, Some}
 use native.Mathlib.Omega.{arith}
 use borrow.Author.Tests.{ne_eqb}
 use lib.Dec.{eqb}
@@ -15,17 +16,17 @@ use Rattle.rules.specs.Layout.{filled, exponent_wrong}
 use Rattle.image.specs.Shown.{denominator_wrong, denominator_at}
 use Rattle.image.proofs.Within.{within_in}
 
-pub nowhere : (p n : ℕ) → first_from (λ i. false) p n ≡ none
+pub nowhere : (p n : ℕ) → first_from (λ i. false) p n ≡ None
 unfolding first_from
 nowhere p zero = refl
 nowhere p (suc n) = rw (first_from, nowhere p n)
 
 -- the place of the first of n + 1, from that of the first of n
 placed_next : (f : ℕ → ℕ) (n : ℕ) (o : Option ℕ) (t : Bool)
-    → or_else (found o (λ b. some (f b)) none) (cond t (some (f n)) none) ≡ found (or_else o (cond t (some n) none)) (λ b. some (f b)) none
-placed_next f n (some b) t = refl
-placed_next f n none true = refl
-placed_next f n none false = refl
+    → or_else (found o (λ b. Some (f b)) None) (cond t (Some (f n)) None) ≡ found (or_else o (cond t (Some n) None)) (λ b. Some (f b)) None
+placed_next f n (Some b) t = refl
+placed_next f n None true = refl
+placed_next f n None false = refl
 
 module _ (s : List ℕ) (p : ℕ) where
   -- unresolved: a byte that is not zero
@@ -36,7 +37,7 @@ module _ (s : List ℕ) (p : ℕ) where
       (λ k h. rw (within_in (p + 96) 48 (p + 96 + k) (omega arith) (omega arith), e, or-false))
 
   -- any other flag but 1: unchecked
-  pub exponents_unchecked : (byte s (p + 144) ≡ 0 → ⊥) → (byte s (p + 144) ≡ 1 → ⊥) → first_from (exponent_wrong s p) (p + 96) 48 ≡ none
+  pub exponents_unchecked : (byte s (p + 144) ≡ 0 → ⊥) → (byte s (p + 144) ≡ 1 → ⊥) → first_from (exponent_wrong s p) (p + 96) 48 ≡ None
   unfolding exponent_wrong
   exponents_unchecked e f =
       from_same (exponent_wrong s p) (p + 96) (λ i. false) 48 (λ k h. rw (ne_eqb _ 0 e, ne_eqb _ 1 f, and-false))
@@ -53,13 +54,13 @@ module _ (s : List ℕ) (p : ℕ) where
     abbrev T : ℕ → Bool
     T = exponent_wrong s p
 
-    at_denominator : (b : ℕ) → b < 12 → first_from T (p + 96 + 4 * b) 4 ≡ cond (denominator_wrong s (p + 98 + 4 * b)) (some (p + 98 + 4 * b)) none
+    at_denominator : (b : ℕ) → b < 12 → first_from T (p + 96 + 4 * b) 4 ≡ cond (denominator_wrong s (p + 98 + 4 * b)) (Some (p + 98 + 4 * b)) None
     unfolding first_from
     at_denominator b h =
         let z : p + 96 + 4 * b + 2 ≡ p + 98 + 4 * b = omega arith in
         rw (first_from, given_at b 3 h (omega arith), first_from, given_at b 2 h (omega arith), first_from, given_at b 1 h (omega arith), first_from, given_at b 0 h (omega arith), z) (last (denominator_wrong s (p + 98 + 4 * b)))
       where
-        last : (t : Bool) → or_else (cond t (some (p + 98 + 4 * b)) none) none ≡ cond t (some (p + 98 + 4 * b)) none
+        last : (t : Bool) → or_else (cond t (Some (p + 98 + 4 * b)) None) None ≡ cond t (Some (p + 98 + 4 * b)) None
         last true = refl
         last false = refl
 

@@ -3,7 +3,8 @@ use Prim.Native.Nat.{ℕ, ◌+◌, ◌<◌, ◌≤◌}
 use mathlib.Core.Path.{◌≡◌, refl, ◌∙◌, ap, ap₂}
 use mathlib.Core.Bool.{Bool, false, cond, ◌&&◌, ◌||◌, or-false}
 use mathlib.Core.List.{List}
-use mathlib.Core.Option.{Option, some, none}
+use Rattle.std.specs.declared.option.Option.{Option}
+use Rattle.std.specs.declared.option.Option.TheVariants.{None, Some}
 use native.Mathlib.Omega.{arith}
 use borrow.Author.Tests.{ne_eqb}
 use lib.Dec.{ltb}
@@ -16,9 +17,9 @@ use Rattle.image.proofs.Within.{within_before, within_past, within_in, id_before
 use Rattle.image.proofs.Split.{from_one}
 use Rattle.image.proofs.Exponents.{nowhere}
 
-pub or_none : (o : Option ℕ) → or_else o none ≡ o
-or_none (some i) = refl
-or_none none = refl
+pub or_none : (o : Option ℕ) → or_else o None ≡ o
+or_none (Some i) = refl
+or_none None = refl
 
 -- a part with a test of its own, and one in which nothing is wrong
 pub part : (t a : ℕ → Bool) (p n m : ℕ) → ((i : ℕ) → i < n → t (p + i) ≡ a (p + i)) → first_from t p (n + m) ≡ or_else (first_from a p n) (first_from t (p + n) m)
@@ -51,7 +52,7 @@ module _ (s : List ℕ) where
   T = header_wrong s
 
   abbrev one : Bool → ℕ → Option ℕ
-  one t i = cond t (some i) none
+  one t i = cond t (Some i) None
 
   pub counts_split : first_from T 0 12 ≡ or_else (first_from (filled s) 2 2) (or_else (one (counts_wrong s) 8) (one (ltb 200 (row_count s)) 10))
   counts_split =
@@ -66,7 +67,7 @@ module _ (s : List ℕ) where
       ∙ ap₂ or_else (from_one T 10 ∙ ap (λ (t : Bool). one t 10) at_ten) (last_byte)
       ∙ or_none (one (ltb 200 (row_count s)) 10)))
     where
-      last_byte : first_from T 11 1 ≡ none
+      last_byte : first_from T 11 1 ≡ None
       last_byte = from_one T 11 ∙ ap (λ (t : Bool). one t 11) (plain 11 refl (omega arith) (λ e. omega arith) (λ e. omega arith))
 
   past_counts : (i : ℕ) → 12 ≤ i → header_wrong s i ≡ (id_wrong s 12 i || id_wrong s 44 i || (within 76 432 i && filled s i))
@@ -85,7 +86,7 @@ module _ (s : List ℕ) where
       ∙ ap (or_else (first_from (filled s) 76 432)) sum_bytes
       ∙ or_none (first_from (filled s) 76 432))))
     where
-      sum_bytes : first_from T 508 4 ≡ none
+      sum_bytes : first_from T 508 4 ≡ None
       sum_bytes =
           from_same T 508 (λ i. false) 4
           (λ i h. past_counts (508 + i) (omega arith) ∙ rw (id_past s 12 (508 + i) (omega arith), id_past s 44 (508 + i) (omega arith), within_past 76 432 (508 + i) (omega arith)))

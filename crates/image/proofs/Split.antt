@@ -3,7 +3,8 @@ use Prim.Native.Nat.{ℕ, ◌+◌, ◌<◌}
 use mathlib.Core.Path.{◌≡◌, refl, ◌∙◌, ap, ap₂}
 use mathlib.Core.Bool.{Bool, cond, or-false}
 use mathlib.Core.List.{List}
-use mathlib.Core.Option.{Option, some, none}
+use Rattle.std.specs.declared.option.Option.{Option}
+use Rattle.std.specs.declared.option.Option.TheVariants.{None, Some}
 use native.Mathlib.Nat.{add-zero}
 use borrow.Author.Tests.{eq-eqb, ne_eqb, le-leb, lt-leb}
 use lib.Dec.{ltb}
@@ -37,7 +38,7 @@ module _ (s : List ℕ) (p : ℕ) where
       (λ i h. rw (id_past s p (p + 64 + i) (omega arith), id_past s (p + 32) (p + 64 + i) (omega arith)))
 
 -- one place
-pub from_one : (t : ℕ → Bool) (q : ℕ) → first_from t q 1 ≡ cond (t q) (some q) none
+pub from_one : (t : ℕ → Bool) (q : ℕ) → first_from t q 1 ≡ cond (t q) (Some q) None
 unfolding first_from
 from_one t q = rw (add-zero q)
 
@@ -54,11 +55,11 @@ module _ (s : List ℕ) (q a b : ℕ) where
   unfolding marks_wrong
   at_unnamed i = rw (ne_eqb (q + 2 + i) q (λ e. omega arith), ne_eqb (q + 2 + i) (q + 1) (λ e. omega arith), le-leb (q + 2) (q + 2 + i) (omega arith))
 
-  pub marks_split : first_from (marks_wrong s q a b) q 4 ≡ or_else (cond (ltb a (byte s q)) (some q) none) (or_else (cond (ltb b (byte s (q + 1))) (some (q + 1)) none) (first_from (filled s) (q + 2) 2))
+  pub marks_split : first_from (marks_wrong s q a b) q 4 ≡ or_else (cond (ltb a (byte s q)) (Some q) None) (or_else (cond (ltb b (byte s (q + 1))) (Some (q + 1)) None) (first_from (filled s) (q + 2) 2))
   marks_split =
       three (marks_wrong s q a b) (marks_wrong s q a b) (marks_wrong s q a b) (filled s) q 1 1 2 (λ i h. refl) (λ i h. refl) (λ i h. at_unnamed i)
-      ∙ ap₂ or_else (from_one (marks_wrong s q a b) q ∙ ap (λ (t : Bool). cond t (some q) none) at_first)
-      (ap (λ (o : Option ℕ). or_else o (first_from (filled s) (q + 2) 2)) (from_one (marks_wrong s q a b) (q + 1) ∙ ap (λ (t : Bool). cond t (some (q + 1)) none) at_second))
+      ∙ ap₂ or_else (from_one (marks_wrong s q a b) q ∙ ap (λ (t : Bool). cond t (Some q) None) at_first)
+      (ap (λ (o : Option ℕ). or_else o (first_from (filled s) (q + 2) 2)) (from_one (marks_wrong s q a b) (q + 1) ∙ ap (λ (t : Bool). cond t (Some (q + 1)) None) at_second))
 
 module _ (s : List ℕ) (p : ℕ) where
   in_ids : (i : ℕ) → i < 96 → kind_wrong s p (p + i) ≡ ids_wrong s p (p + i)

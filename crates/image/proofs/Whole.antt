@@ -3,7 +3,7 @@ use Prim.Native.Nat.{ℕ, ◌+◌, ◌*◌, ◌-◌, ◌/◌, ◌<◌, ◌≤◌
 use mathlib.Core.Path.{◌≡◌, refl}
 use mathlib.Core.Bool.{Bool}
 use mathlib.Core.List.{List}
-use mathlib.Core.Option.{some, none}
+use Rattle.std.specs.declared.option.Option.TheVariants.{None, Some}
 use native.Mathlib.Nat.{le_antisymm}
 use native.Mathlib.Omega.{arith}
 use borrow.Author.Tests.{lt-ltb, le-ltb, le-leb, lt-leb}
@@ -35,24 +35,24 @@ module _ (s : List ℕ) where
 
 -- ---- a loop over blocks: nothing is found in the first b
 module _ (t : ℕ → Bool) where
-  pub blocks_none : first_from t 0 (512 * 0) ≡ none
+  pub blocks_none : first_from t 0 (512 * 0) ≡ None
   unfolding first_from
   blocks_none = refl
 
-  pub blocks_next : (b : ℕ) → first_from t 0 (512 * b) ≡ none → first_from t (512 * b) 512 ≡ none → first_from t 0 (512 * (b + 1)) ≡ none
+  pub blocks_next : (b : ℕ) → first_from t 0 (512 * b) ≡ None → first_from t (512 * b) 512 ≡ None → first_from t 0 (512 * (b + 1)) ≡ None
   blocks_next b e f =
       let z : 512 * (b + 1) ≡ 512 * b + 512 = omega arith in
       let y : 0 + 512 * b ≡ 512 * b = omega arith in
       rw (z, from_split t 0 (512 * b) 512, e, y) f
 
-  pub blocks_here : (b n : ℕ) {i : ℕ} → first_from t 0 (512 * b) ≡ none → b < n → first_from t (512 * b) 512 ≡ some i → first_from t 0 (512 * n) ≡ some i
+  pub blocks_here : (b n : ℕ) {i : ℕ} → first_from t 0 (512 * b) ≡ None → b < n → first_from t (512 * b) 512 ≡ Some i → first_from t 0 (512 * n) ≡ Some i
   blocks_here b n e l f =
       let k = n - (b + 1) in
       let z : 512 * n ≡ 512 * b + (512 + 512 * k) = omega arith in
       let y : 0 + 512 * b ≡ 512 * b = omega arith in
       rw (z, from_split t 0 (512 * b) (512 + 512 * k), e, y, from_split t (512 * b) 512 (512 * k), f)
 
-  pub blocks_end : (b n : ℕ) → first_from t 0 (512 * b) ≡ none → b ≤ n → n ≤ b → first_from t 0 (512 * n) ≡ none
+  pub blocks_end : (b n : ℕ) → first_from t 0 (512 * b) ≡ None → b ≤ n → n ≤ b → first_from t 0 (512 * n) ≡ None
   blocks_end b n e l m = rw (le_antisymm m l) e
 
 pub ruleset blocks = (blocks_none, blocks_next, blocks_here, blocks_end)

@@ -3,12 +3,13 @@ ghost use Rattle.std.specs.Prelude.{◌≡◌, ◌+◌, ◌*◌, ◌/◌, ◌<�
 ghost use Rattle.rules.specs.Bytes.{byte, block_sum};
 ghost use Rattle.rules.specs.Image.{sum_wrong};
 ghost use Rattle.laws.specs.Ranges.{first};
-ghost use Rattle.image.specs.Shown.{placed, weighed};
+ghost use Rattle.image.specs.Shown.{weighed};
 
-use crate::search::Found;
 use numbers::{u16_at, u32_at};
 
-// What byte i of a block adds to the block's sum. The block lies within the image, so no place needs a test.
+// What byte i of a block adds to the block's sum. The block lies within the image, so no place needs a test. That is said of the number of the block
+// and not by a type: the sum is asked block by block, and a part cut for each would be tested again.
+#[tactic(auto, unfolding(crate::specs::Shown::weighed))]
 fn weight(image: &[u8], block: usize, i: usize) -> u32
     requires block_bound { (block < 1000) × (i < 508) }
     requires block_in_bounds { 512 * block + 508 ≤ length image.now }
@@ -18,20 +19,20 @@ fn weight(image: &[u8], block: usize, i: usize) -> u32
     (i as u32 + 1) * (image[block * 512 + i] as u32)
 }
 
+#[tactic(auto, using(laws::proofs::Sum::sums), unfolding(rules::specs::Bytes::block_sum, crate::specs::Shown::weighed))]
 fn block_sum(image: &[u8], block: usize) -> u32
     requires block_bound { block < 1000 }
     requires block_in_bounds { 512 * block + 508 ≤ length image.now }
     ensures { result ≡ block_sum image.now block }
 {
     let mut sum: u32 = 0;
-    let mut i: usize = 0;
-    while i < 508 {
+    for i in 0..508 {
         sum += weight(image, block, i);
-        i += 1;
     }
     sum
 }
 
+#[tactic(auto, unfolding(rules::specs::Image::sum_wrong))]
 fn sum_wrong(image: &[u8], block: usize) -> bool
     requires block_bound { block < 1000 }
     requires block_in_bounds { 512 * block + 508 ≤ length image.now }
@@ -42,17 +43,16 @@ fn sum_wrong(image: &[u8], block: usize) -> bool
 }
 
 // The lowest wrong block of n.
-pub(crate) fn wrong_among(image: &[u8], n: usize) -> Found
+#[tactic(auto, using(crate::proofs::Finds::finds))]
+pub(crate) fn wrong_among(image: &[u8], n: usize) -> Option<usize>
     requires n_bound { n ≤ 1000 }
     requires n_in_bounds { 512 * n ≤ length image.now }
-    ensures { result ≡ placed (first (sum_wrong image.now) n) }
+    ensures { result ≡ first (sum_wrong image.now) n }
 {
-    let mut b: usize = 0;
-    while b < n {
+    for b in 0..n {
         if sum_wrong(image, b) {
-            return Found::At(b);
+            return Some(b);
         }
-        b += 1;
     }
-    Found::Nothing
+    None
 }

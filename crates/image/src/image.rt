@@ -5,10 +5,10 @@ ghost use Rattle.error.specs.Shown.{fine};
 
 use crate::blocks::wrong_among;
 use crate::layout::wrong_byte;
-use crate::search::Found;
-use error::{Answer, Error, Verdict, plain, refused};
+use error::{Error, Fault};
 use numbers::u32_at;
 
+#[tactic(auto, unfolding(rules::specs::Image::length_wrong))]
 fn length_wrong(image: &[u8]) -> bool
     ensures { result ≡ length_wrong image.now }
 {
@@ -17,43 +17,46 @@ fn length_wrong(image: &[u8]) -> bool
 }
 
 // 2, 3, 4: the lowest wrong block, the schema, the lowest wrong byte.
-fn check_readable(image: &[u8]) -> Answer
+#[tactic(auto, using(crate::proofs::Refused::refusals, crate::proofs::Refused::lengths))]
+fn check_readable(image: &[u8]) -> Result<(), Fault>
     requires { length_wrong image.now ≡ false }
     ensures { result ≡ fine (readable image.now) }
 {
     let n = image.len() / 512;
-    if let Found::At(b) = wrong_among(image, n) {
-        return refused(Error::WrongBlock(b), b);
+    if let Some(b) = wrong_among(image, n) {
+        return Err(Error::WrongBlock(b).at(b));
     }
     let schema = u32_at(image, 4);
     if schema != 4 {
-        return refused(Error::Schema(schema), 0);
+        return Err(Error::Schema(schema).at(0));
     }
-    if let Found::At(i) = wrong_byte(image, n) {
-        return refused(Error::WrongByte(i), i);
+    if let Some(i) = wrong_byte(image, n) {
+        return Err(Error::WrongByte(i).at(i));
     }
-    plain(Verdict::Fine, 0)
+    Ok(())
 }
 
 // 1, 2, 3, 4: whether the image can be read, whatever table is lent.
-pub fn check_image(image: &[u8]) -> Answer
+#[tactic(auto, using(crate::proofs::Refused::refusals))]
+pub fn check_image(image: &[u8]) -> Result<(), Fault>
     ensures { result ≡ fine (image_check image.now) }
 {
     if length_wrong(image) {
-        return refused(Error::ImageLength(image.len()), 0);
+        return Err(Error::ImageLength(image.len()).at(0));
     }
     check_readable(image)
 }
 
 // 1, 5, 2, 3, 4: the image, and the length of the table lent for its compilation.
-pub fn check_lent(image: &[u8], room: usize) -> Answer
+#[tactic(auto, using(crate::proofs::Refused::refusals))]
+pub fn check_lent(image: &[u8], room: usize) -> Result<(), Fault>
     ensures { result ≡ fine (lent_check image.now room) }
 {
     if length_wrong(image) {
-        return refused(Error::ImageLength(image.len()), 0);
+        return Err(Error::ImageLength(image.len()).at(0));
     }
     if room < 9296 {
-        return refused(Error::Short(room), 0);
+        return Err(Error::Short(room).at(0));
     }
     check_readable(image)
 }

@@ -1,14 +1,15 @@
 // Refusal 4: the lowest byte against the layout. Each function looks through one part of the image and stops at its first wrong byte.
-ghost use Rattle.std.specs.Prelude.{◌≡◌, ◌+◌, ◌*◌, ◌-◌, ◌<◌, ◌≤◌, min, length};
+ghost use Rattle.std.specs.Prelude.{◌≡◌, ℕ, ◌+◌, ◌*◌, ◌-◌, ◌<◌, ◌≤◌, min, Bool, List, length};
 ghost use Rattle.rules.specs.Layout.{header_wrong, id_wrong, ids_wrong, exponent_wrong, kind_wrong, row_wrong, block_wrong, byte_wrong};
 ghost use Rattle.laws.specs.Options.{is_some};
 ghost use Rattle.laws.specs.Ranges.{first_from};
-ghost use Rattle.image.specs.Shown.{placed, denominator_wrong, denominator_at, marks_wrong, counts_wrong, head_at, records_at};
+ghost use Rattle.image.specs.Shown.{denominator_wrong, denominator_at, marks_wrong, counts_wrong, head_at, records_at, Follows};
 
-use crate::search::{Found, filled_before, first_filled};
+use crate::search::{filled_before, first_filled};
 use numbers::{byte_at, u16_at};
 
 // Whether byte i of the id at p is a wrong one: no zero, and no sign at the front or after a sign.
+#[tactic(auto, using(crate::proofs::Ids::in_id), unfolding(rules::specs::Layout::filled))]
 fn id_byte_wrong(s: &[u8], p: usize, i: usize) -> bool
     requires { (p < 500000) × (i < 32) }
     ensures { result ≡ id_wrong s.now p (p + i) }
@@ -18,6 +19,7 @@ fn id_byte_wrong(s: &[u8], p: usize, i: usize) -> bool
 }
 
 // The same of an id that lies within the image.
+#[tactic(auto, using(crate::proofs::Ids::in_id_bytes))]
 fn wrong_within(s: &[u8], p: usize, i: usize) -> bool
     requires p_nonzero { (0 < p) × (p + 32 ≤ length s.now) }
     requires i_bound { i < 32 }
@@ -29,53 +31,48 @@ fn wrong_within(s: &[u8], p: usize, i: usize) -> bool
 }
 
 // Whether a byte of an id that lies within the image is wrong. No byte ends the loop, so that many are looked at at once.
+#[tactic(auto, using(laws::proofs::FirstFrom::anys))]
 fn any_wrong(s: &[u8], p: usize) -> bool
     requires { (0 < p) × (p + 32 ≤ length s.now) }
     ensures { result ≡ is_some (first_from (id_wrong s.now p) p 32) }
 {
     let mut any = false;
-    let mut i: usize = 0;
-    while i < 32 {
+    for i in 0..32 {
         any = any | wrong_within(s, p, i);
-        i += 1;
     }
     any
 }
 
 // The first wrong byte of the id at p. Most ids have none, which is seen first.
-fn id_fault(s: &[u8], p: usize) -> Found
+#[tactic(auto, using(crate::proofs::Finds::finds))]
+fn id_fault(s: &[u8], p: usize) -> Option<usize>
     requires { p < 500000 }
-    ensures { result ≡ placed (first_from (id_wrong s.now p) p 32) }
+    ensures { result ≡ first_from (id_wrong s.now p) p 32 }
 {
-    if (0 < p) & (p + 32 <= s.len()) {
-        if !any_wrong(s, p) {
-            return Found::Nothing;
-        }
+    if 0 < p && p + 32 <= s.len() && !any_wrong(s, p) {
+        return None;
     }
-    let mut i: usize = 0;
-    while i < 32 {
+    for i in 0..32 {
         if id_byte_wrong(s, p, i) {
-            return Found::At(p + i);
+            return Some(p + i);
         }
-        i += 1;
     }
-    Found::Nothing
+    None
 }
 
-fn ids_fault(s: &[u8], p: usize) -> Found
+// The bounds on places, here and below, keep sums from overflowing. A type for a place would say no more and would have to be made at each sum.
+#[tactic(auto, using(crate::proofs::Finds::finds, crate::proofs::Split::ids_split))]
+fn ids_fault(s: &[u8], p: usize) -> Option<usize>
     requires { p < 400000 }
-    ensures { result ≡ placed (first_from (ids_wrong s.now p) p 96) }
+    ensures { result ≡ first_from (ids_wrong s.now p) p 96 }
 {
-    if let Found::At(i) = id_fault(s, p) {
-        return Found::At(i);
-    }
-    if let Found::At(i) = id_fault(s, p + 32) {
-        return Found::At(i);
-    }
-    id_fault(s, p + 64)
+    id_fault(s, p)
+        .or_else(|| id_fault(s, p + 32))
+        .or_else(|| id_fault(s, p + 64))
 }
 
 // Whether exponent b of the kind at p, of which dimensions are given, has a wrong denominator.
+#[tactic(auto, unfolding(crate::specs::Shown::denominator_wrong))]
 fn denominator_wrong(s: &[u8], p: usize, b: usize) -> bool
     requires { (p < 400000) × (b < 12) }
     ensures { result ≡ denominator_wrong s.now (p + 98 + 4 * b) }
@@ -85,24 +82,24 @@ fn denominator_wrong(s: &[u8], p: usize, b: usize) -> bool
 }
 
 // The first wrong denominator of twelve.
-fn denominators_fault(s: &[u8], p: usize) -> Found
+#[tactic(auto, using(crate::proofs::Finds::finds), unfolding(crate::specs::Shown::denominator_at))]
+fn denominators_fault(s: &[u8], p: usize) -> Option<usize>
     requires { p < 400000 }
-    ensures { result ≡ placed (denominator_at s.now p 12) }
+    ensures { result ≡ denominator_at s.now p 12 }
 {
-    let mut b: usize = 0;
-    while b < 12 {
+    for b in 0..12 {
         if denominator_wrong(s, p, b) {
-            return Found::At(p + 98 + 4 * b);
+            return Some(p + 98 + 4 * b);
         }
-        b += 1;
     }
-    Found::Nothing
+    None
 }
 
 // By the flag: unresolved, given, or unchecked.
-fn exponents_fault(s: &[u8], p: usize) -> Found
+#[tactic(auto, using(crate::proofs::Exponents::exponents_unresolved, crate::proofs::Exponents::exponents_unchecked, crate::proofs::Exponents::exponents_given))]
+fn exponents_fault(s: &[u8], p: usize) -> Option<usize>
     requires { p < 400000 }
-    ensures { result ≡ placed (first_from (exponent_wrong s.now p) (p + 96) 48) }
+    ensures { result ≡ first_from (exponent_wrong s.now p) (p + 96) 48 }
 {
     let flag = byte_at(s, p + 144);
     if flag == 0 {
@@ -111,48 +108,45 @@ fn exponents_fault(s: &[u8], p: usize) -> Found
     if flag == 1 {
         return denominators_fault(s, p);
     }
-    Found::Nothing
+    None
 }
 
 // The four bytes with which a record ends: two fields with the greatest value of each, and two unnamed bytes. A kind's flag and grade, a row's
 // operation and commutative.
-fn marks_fault(s: &[u8], p: usize, first: u8, second: u8) -> Found
+#[tactic(auto, using(crate::proofs::Split::marks_split))]
+fn marks_fault(s: &[u8], p: usize, first: u8, second: u8) -> Option<usize>
     requires { p < 500000 }
-    ensures { result ≡ placed (first_from (marks_wrong s.now p first second) p 4) }
+    ensures { result ≡ first_from (marks_wrong s.now p first second) p 4 }
 {
     if first < byte_at(s, p) {
-        return Found::At(p);
+        return Some(p);
     }
     if second < byte_at(s, p + 1) {
-        return Found::At(p + 1);
+        return Some(p + 1);
     }
     first_filled(s, p + 2, 2)
 }
 
-pub(crate) fn kind_fault(s: &[u8], p: usize) -> Found
+#[tactic(auto, using(crate::proofs::Finds::finds, crate::proofs::Split::kind_split))]
+pub(crate) fn kind_fault(s: &[u8], p: usize) -> Option<usize>
     requires { p < 300000 }
-    ensures { result ≡ placed (first_from (kind_wrong s.now p) p 148) }
+    ensures { result ≡ first_from (kind_wrong s.now p) p 148 }
 {
-    if let Found::At(i) = ids_fault(s, p) {
-        return Found::At(i);
-    }
-    if let Found::At(i) = exponents_fault(s, p) {
-        return Found::At(i);
-    }
-    marks_fault(s, p + 144, 1, 3)
+    ids_fault(s, p)
+        .or_else(|| exponents_fault(s, p))
+        .or_else(|| marks_fault(s, p + 144, 1, 3))
 }
 
-pub(crate) fn row_fault(s: &[u8], p: usize) -> Found
+#[tactic(auto, using(crate::proofs::Finds::finds, crate::proofs::Split::row_split))]
+pub(crate) fn row_fault(s: &[u8], p: usize) -> Option<usize>
     requires { p < 300000 }
-    ensures { result ≡ placed (first_from (row_wrong s.now p) p 100) }
+    ensures { result ≡ first_from (row_wrong s.now p) p 100 }
 {
-    if let Found::At(i) = ids_fault(s, p) {
-        return Found::At(i);
-    }
-    marks_fault(s, p + 96, 3, 1)
+    ids_fault(s, p).or_else(|| marks_fault(s, p + 96, 3, 1))
 }
 
 // The blocks that the counts give, and what is charged to byte 8.
+#[tactic(auto, unfolding(crate::specs::Shown::counts_wrong))]
 fn counts_wrong(s: &[u8]) -> bool
     ensures { result ≡ counts_wrong s.now }
 {
@@ -161,37 +155,34 @@ fn counts_wrong(s: &[u8]) -> bool
     (240 < kinds) | (s.len() != 512 * (1 + (kinds + 2) / 3 + (rows + 4) / 5))
 }
 
-fn header_counts_fault(s: &[u8]) -> Found
-    ensures { result ≡ placed (first_from (header_wrong s.now) 0 12) }
+#[tactic(auto, using(crate::proofs::Finds::finds, crate::proofs::Header::counts_split))]
+fn header_counts_fault(s: &[u8]) -> Option<usize>
+    ensures { result ≡ first_from (header_wrong s.now) 0 12 }
 {
-    if let Found::At(i) = first_filled(s, 2, 2) {
-        return Found::At(i);
+    if let Some(i) = first_filled(s, 2, 2) {
+        return Some(i);
     }
     if counts_wrong(s) {
-        return Found::At(8);
+        return Some(8);
     }
     if 200 < u16_at(s, 10) {
-        return Found::At(10);
+        return Some(10);
     }
-    Found::Nothing
+    None
 }
 
-fn header_fault(s: &[u8]) -> Found
-    ensures { result ≡ placed (first_from (header_wrong s.now) 0 512) }
+#[tactic(auto, using(crate::proofs::Finds::finds, crate::proofs::Header::header_split))]
+fn header_fault(s: &[u8]) -> Option<usize>
+    ensures { result ≡ first_from (header_wrong s.now) 0 512 }
 {
-    if let Found::At(i) = header_counts_fault(s) {
-        return Found::At(i);
-    }
-    if let Found::At(i) = id_fault(s, 12) {
-        return Found::At(i);
-    }
-    if let Found::At(i) = id_fault(s, 44) {
-        return Found::At(i);
-    }
-    first_filled(s, 76, 432)
+    header_counts_fault(s)
+        .or_else(|| id_fault(s, 12))
+        .or_else(|| id_fault(s, 44))
+        .or_else(|| first_filled(s, 76, 432))
 }
 
-// The records that a block holds, of n in all, m to a block, where `from` are in the blocks before.
+// The records that a block holds, of n in all, m to a block, where `from` are in the blocks before. The full block is a case of its own, so that
+// the compiler knows its length: with `m.min(n.saturating_sub(from))` the check of an image takes a fifth more.
 fn held(n: usize, from: usize, m: usize) -> usize
     ensures value { result ≡ min m (n - from) }
     ensures upper_bound { result ≤ m }
@@ -206,85 +197,71 @@ fn held(n: usize, from: usize, m: usize) -> usize
 }
 
 // The head of a block at p: its type and the number of its records.
-fn head_fault(s: &[u8], p: usize, kind: u8, records: usize) -> Found
+#[tactic(auto, unfolding(crate::specs::Shown::head_at))]
+fn head_fault(s: &[u8], p: usize, kind: u8, records: usize) -> Option<usize>
     requires { p < 300000 }
-    ensures { result ≡ placed (head_at s.now p kind records) }
+    ensures { result ≡ head_at s.now p kind records }
 {
     if byte_at(s, p + 2) != kind {
-        return Found::At(p + 2);
+        return Some(p + 2);
     }
     if byte_at(s, p + 3) as usize != records {
-        return Found::At(p + 3);
+        return Some(p + 3);
     }
-    Found::Nothing
+    None
 }
 
-// The first fault of so many kind records from p on.
-fn kinds_fault(s: &[u8], p: usize, records: usize) -> Found
-    requires { (p < 200000) × (records ≤ 3) }
-    ensures { result ≡ placed (records_at (kind_wrong s.now) 148 p records) }
+// The first fault of so many records of so many bytes from p on, by whatever rule a record's check goes.
+fn records_fault<F: Fn(usize) -> Option<usize>>(
+    p: usize,
+    bytes: usize,
+    records: usize,
+    fault: F,
+) -> Option<usize>
+    requires p_bound { p < 200000 }
+    requires records_bound { bytes * records ≤ 504 }
+    requires callable { (q : ℕ) → q < 300000 → F.pre fault q }
+    ensures { (wrong : ℕ → ℕ → Bool) → Follows (F.post fault) wrong bytes → result ≡ records_at wrong bytes p records }
 {
-    let mut j: usize = 0;
-    while j < records {
-        if let Found::At(i) = kind_fault(s, p + 148 * j) {
-            return Found::At(i);
+    for j in 0..records {
+        if let Some(i) = fault(p + bytes * j) {
+            return Some(i);
         }
-        j += 1;
     }
-    Found::Nothing
+    None
 }
 
-// The first fault of so many row records from p on.
-fn rows_fault(s: &[u8], p: usize, records: usize) -> Found
-    requires { (p < 200000) × (records ≤ 5) }
-    ensures { result ≡ placed (records_at (row_wrong s.now) 100 p records) }
+// Block b of records, n in all, m to a block, that begins with record `from`.
+fn records_block_fault<F: Fn(usize) -> Option<usize>>(
+    s: &[u8],
+    b: usize,
+    kind: u8,
+    bytes: usize,
+    m: usize,
+    n: usize,
+    from: usize,
+    fault: F,
+) -> Option<usize>
+    requires b_bound { b < 200 }
+    requires room { (0 < bytes) × (bytes * m ≤ 504) }
+    requires callable { (q : ℕ) → q < 300000 → F.pre fault q }
+    ensures { (wrong : List ℕ → ℕ → ℕ → Bool) → Follows (F.post fault) (wrong s.now) bytes → result ≡ first_from (block_wrong wrong kind bytes m n from s.now) (512 * b) 512 }
 {
-    let mut j: usize = 0;
-    while j < records {
-        if let Found::At(i) = row_fault(s, p + 100 * j) {
-            return Found::At(i);
-        }
-        j += 1;
-    }
-    Found::Nothing
-}
-
-// Block b of kinds, n in all, that begins with kind `from`.
-fn kind_block_fault(s: &[u8], b: usize, n: usize, from: usize) -> Found
-    requires { b < 200 }
-    ensures { result ≡ placed (first_from (block_wrong kind_wrong 1 148 3 n from s.now) (512 * b) 512) }
-{
-    let records = held(n, from, 3);
+    let records = held(n, from, m);
     let p = 512 * b;
-    if let Found::At(i) = head_fault(s, p, 1, records) {
-        return Found::At(i);
+    if let Some(i) = head_fault(s, p, kind, records) {
+        return Some(i);
     }
-    if let Found::At(i) = kinds_fault(s, p + 4, records) {
-        return Found::At(i);
+    if let Some(i) = records_fault(p + 4, bytes, records, fault) {
+        return Some(i);
     }
-    first_filled(s, p + 4 + 148 * records, 504 - 148 * records)
-}
-
-// Block b of rows, n in all, that begins with row `from`.
-fn row_block_fault(s: &[u8], b: usize, n: usize, from: usize) -> Found
-    requires { b < 200 }
-    ensures { result ≡ placed (first_from (block_wrong row_wrong 2 100 5 n from s.now) (512 * b) 512) }
-{
-    let records = held(n, from, 5);
-    let p = 512 * b;
-    if let Found::At(i) = head_fault(s, p, 2, records) {
-        return Found::At(i);
-    }
-    if let Found::At(i) = rows_fault(s, p + 4, records) {
-        return Found::At(i);
-    }
-    first_filled(s, p + 4 + 100 * records, 504 - 100 * records)
+    first_filled(s, p + 4 + bytes * records, 504 - bytes * records)
 }
 
 // Block b: the header, a block of kinds or a block of rows.
-fn block_fault(s: &[u8], b: usize) -> Found
+fn block_fault(s: &[u8], b: usize) -> Option<usize>
     requires { b < 200 }
-    ensures { result ≡ placed (first_from (byte_wrong s.now) (512 * b) 512) }
+    ensures { result ≡ first_from (byte_wrong s.now) (512 * b) 512 }
 {
     if b == 0 {
         return header_fault(s);
@@ -293,22 +270,21 @@ fn block_fault(s: &[u8], b: usize) -> Found
     let rows = u16_at(s, 10) as usize;
     let k = (kinds + 2) / 3;
     if b <= k {
-        return kind_block_fault(s, b, kinds, (b - 1) * 3);
+        return records_block_fault(s, b, 1, 148, 3, kinds, (b - 1) * 3, |q| kind_fault(s, q));
     }
-    row_block_fault(s, b, rows, (b - 1 - k) * 5)
+    records_block_fault(s, b, 2, 100, 5, rows, (b - 1 - k) * 5, |q| row_fault(s, q))
 }
 
 // The lowest wrong byte of the first n blocks.
-pub(crate) fn wrong_byte(s: &[u8], n: usize) -> Found
+#[tactic(auto, using(crate::proofs::Whole::blocks, crate::proofs::Finds::finds))]
+pub(crate) fn wrong_byte(s: &[u8], n: usize) -> Option<usize>
     requires { n ≤ 200 }
-    ensures { result ≡ placed (first_from (byte_wrong s.now) 0 (512 * n)) }
+    ensures { result ≡ first_from (byte_wrong s.now) 0 (512 * n) }
 {
-    let mut b: usize = 0;
-    while b < n {
-        if let Found::At(i) = block_fault(s, b) {
-            return Found::At(i);
+    for b in 0..n {
+        if let Some(i) = block_fault(s, b) {
+            return Some(i);
         }
-        b += 1;
     }
-    Found::Nothing
+    None
 }

@@ -5,7 +5,7 @@ use Rattle.dimension.specs.declared.grade.ProductOp.{ProductOp}
 use Rattle.dimension.specs.declared.grade.ProductOp.TheVariants.{Mul, Div, Dot, Wedge}
 use Rattle.dimension.specs.Dimension as D
 use Rattle.dimension.specs.declared.dimensions.Dimensions.{Dimensions}
-use Rattle.dimension.specs.declared.dimensions.Outcome.{Outcome}
+use Rattle.std.specs.declared.option.Option.{Option}
 use Rattle.rules.specs.Kinds.{same_op}
 use Rattle.rules.specs.Arithmetic as rule
 
@@ -23,12 +23,12 @@ module _ {op : ProductOp} where
   not_wedge p = rw p
 
 -- t is the test, o the outcome of a call
-module _ (op : ProductOp) (a b : Dimensions) {t : Bool} {o : Outcome} (e : t ≡ same_op op Div) where
-  pub joined_quotient : t ≡ true → o ≡ D.quotient a b → o.value ≡ rule.joined op a b
+module _ (op : ProductOp) (a b : Dimensions) {t : Bool} {o : Option Dimensions} (e : t ≡ same_op op Div) where
+  pub joined_quotient : t ≡ true → o ≡ D.quotient a b → (D.or_one o) ≡ rule.joined op a b
   unfolding rule.joined
   joined_quotient p f = rw (← e, p, f)
 
-  pub joined_product : t ≡ false → o ≡ D.product a b → o.value ≡ rule.joined op a b
+  pub joined_product : t ≡ false → o ≡ D.product a b → (D.or_one o) ≡ rule.joined op a b
   unfolding rule.joined
   joined_product p f = rw (← e, p, f)
 

@@ -1,42 +1,71 @@
 // Exponents that are whole numbers.
-ghost use Rattle.std.specs.Prelude.{◌≡◌, ◌+◌, ◌<◌, ◌≤◌, length};
+ghost use Rattle.std.specs.Prelude.{◌≡◌, ℕ, true, ◌+◌, ◌<◌, ◌≤◌, length, take, drop, MatchOption, IfSome};
 ghost use Rattle.laws.specs.Ranges.{all};
-ghost use Rattle.joined.specs.Shown.{whole_at, whole_from};
+ghost use Rattle.rules.specs.Table as T;
+ghost use Rattle.joined.specs.Shown.{whole_at, whole_from, dims_at};
 
-// Whether exponent b of those from place p on, all of them there, is a whole number in its range: of such a one nothing is to be reduced.
-fn whole_at(t: &[u32], p: usize, b: usize) -> bool
-    requires p_in_bounds { p + 24 ≤ length t.now }
-    requires b_bound { b < 12 }
-    ensures { result ≡ whole_at t.now p b }
+use slices::after;
+use table::{KIND, KINDS, is_resolved};
+
+// The words of twelve exponents, each a whole number in its range.
+#[derive(Clone, Copy)]
+pub(crate) struct Whole<'a> {
+    pub(crate) words: &'a [u32; 24],
+    ghost whole: { all (whole_at words.now 0) 12 ≡ true },
+    ghost bits: { (i : ℕ) → T.word words.now i < 4294967296 },
+}
+
+// Whether exponent b of these is a whole number in its range: of such a one nothing is to be reduced.
+#[tactic(auto, unfolding(crate::specs::Shown::whole_at))]
+fn whole_at(words: &[u32; 24], b: usize) -> bool
+    requires { b < 12 }
+    ensures { result ≡ whole_at words.now 0 b }
 {
-    let x = t[p + 2 * b];
-    (t[p + 2 * b + 1] == 1) & ((x < 32768) | (4294934528 <= x))
+    let x = words[2 * b];
+    (words[2 * b + 1] == 1) & ((x < 32768) | (4294934528 <= x))
 }
 
 // Whether all twelve are. None of them ends the loop, so that several are looked at at once.
-fn all_whole(t: &[u32], p: usize) -> bool
-    requires { p + 24 ≤ length t.now }
-    ensures { result ≡ all (whole_at t.now p) 12 }
+#[tactic(auto, using(laws::proofs::All::everys))]
+fn all_whole(words: &[u32; 24]) -> bool
+    ensures { result ≡ all (whole_at words.now 0) 12 }
 {
     let mut whole = true;
-    let mut b: usize = 0;
-    while b < 12 {
-        whole = whole & whole_at(t, p, b);
-        b += 1;
+    for b in 0..12 {
+        whole = whole & whole_at(words, b);
     }
     whole
 }
 
+// The words of the twelve exponents that stand from place p on, if they are there.
+fn words_from(t: &[u32], p: usize) -> Option<&[u32; 24]>
+    ensures { MatchOption result (length t.now < p + 24) (λ w. (p + 24 ≤ length t.now) × (w.now ≡ take 24 (drop p t.now))) }
+{
+    after(t, p).first_chunk::<24>()
+}
+
 // Whether twelve whole numbers in their range stand from place p on.
+#[tactic(auto, using(crate::proofs::Wholes::wholes))]
 pub fn whole_from(t: &[u32], p: usize) -> bool
     ensures { result ≡ whole_from t.now p }
 {
-    let n = t.len();
-    if n < 24 {
+    let Some(words) = words_from(t, p) else {
         return false;
+    };
+    all_whole(words)
+}
+
+// The exponents of a kind whose dimensions are given, if all are whole.
+#[tactic(auto, using(crate::proofs::Wholes::dims_whole, crate::proofs::Wholes::bits_cut))]
+pub(crate) fn whole_of(t: &[u32], k: u16) -> Option<Whole<'_>>
+    ensures { IfSome result (λ w. T.dims_from w.words.now 0 ≡ dims_at (T.kinds_of t.now) k) }
+{
+    if !is_resolved(t, k) {
+        return None;
     }
-    if n - 24 < p {
-        return false;
+    let words = words_from(t, KINDS + KIND * k as usize)?;
+    if !all_whole(words) {
+        return None;
     }
-    all_whole(t, p)
+    Some(Whole { words })
 }

@@ -4,7 +4,8 @@ use Prim.Native.Nat.{ℕ, zero, suc, ◌+◌, ◌<◌, ◌≤◌}
 use mathlib.Core.Path.{◌≡◌, refl, subst}
 use mathlib.Core.Bool.{Bool, true, false, true≢false}
 use mathlib.Core.Logic.{⊎_elim}
-use mathlib.Core.Option.{Option, some, none}
+use Rattle.std.specs.declared.option.Option.{Option}
+use Rattle.std.specs.declared.option.Option.TheVariants.{None, Some}
 use native.Mathlib.Nat.{le_of_suc-le-suc, not-suc-le-zero, eq-or-lt_of_le, le_antisymm}
 use native.Mathlib.Numerals.{add-one}
 use native.Mathlib.Omega.{arith}
@@ -64,13 +65,13 @@ module _ {E : Type 0} where
   refuse_given false x e = refl
 
   module _ {A : Type 0} where
-    pub found_given : (o : Option A) (x : A → E) {u : Unit {0}} → refuse_found o x ≡ given u → o ≡ none
-    found_given none x e = refl
-    found_given (some a) x e = cc
+    pub found_given : (o : Option A) (x : A → E) {u : Unit {0}} → refuse_found o x ≡ given u → o ≡ None
+    found_given None x e = refl
+    found_given (Some a) x e = cc
 
-    pub needed_given : (o : Option A) (x : E) {a : A} → needed o x ≡ given a → o ≡ some a
-    needed_given none x e = cc
-    needed_given (some b) x e = cc
+    pub needed_given : (o : Option A) (x : E) {a : A} → needed o x ≡ given a → o ≡ Some a
+    needed_given None x e = cc
+    needed_given (Some b) x e = cc
 
   pub each_given : (rule : ℕ → Out E (Unit {0})) (n i : ℕ) → each rule n ≡ given tt → i < n → rule i ≡ given tt
   unfolding each

@@ -4,7 +4,8 @@ use Prim.Native.Nat.{ℕ, zero, suc, ◌+◌, ◌<◌, ◌≤◌}
 use mathlib.Core.Path.{◌≡◌, refl, sym, subst}
 use mathlib.Core.Bool.{Bool, true, false, not, cond, ◌||◌}
 use mathlib.Core.Logic.{⊎_elim}
-use mathlib.Core.Option.{Option, some, none}
+use Rattle.std.specs.declared.option.Option.{Option}
+use Rattle.std.specs.declared.option.Option.TheVariants.{None, Some}
 use native.Mathlib.Nat.{le_of_suc-le-suc, not-suc-le-zero, eq-or-lt_of_le, le_antisymm, add-suc, add_assoc, zero-add, add-zero}
 use native.Mathlib.Numerals.{add-one}
 use native.Mathlib.Omega.{arith}
@@ -12,39 +13,39 @@ use Rattle.laws.specs.Options.{is_some, or_else}
 use Rattle.laws.specs.Ranges.{first, first_from}
 
 pub or_assoc : (a b c : Option ℕ) → or_else (or_else a b) c ≡ or_else a (or_else b c)
-or_assoc (some i) b c = refl
-or_assoc none b c = refl
+or_assoc (Some i) b c = refl
+or_assoc None b c = refl
 
-some_or : (o : Option ℕ) (b : Bool) (i : ℕ) → (is_some o || b) ≡ is_some (or_else o (cond b (some i) none))
-some_or (some j) b i = refl
-some_or none true i = refl
-some_or none false i = refl
+some_or : (o : Option ℕ) (b : Bool) (i : ℕ) → (is_some o || b) ≡ is_some (or_else o (cond b (Some i) None))
+some_or (Some j) b i = refl
+some_or None true i = refl
+some_or None false i = refl
 
 -- where nothing was gathered there is none
-pub none_there : {v : Bool} (o : Option ℕ) → v ≡ is_some o → not v ≡ true → o ≡ none
-none_there (some i) e f = cc
-none_there none e f = refl
+pub none_there : {v : Bool} (o : Option ℕ) → v ≡ is_some o → not v ≡ true → o ≡ None
+none_there (Some i) e f = cc
+none_there None e f = refl
 
 module _ (test : ℕ → Bool) (p : ℕ) where
   -- ---- a loop: nothing is found in the first i
-  pub from_none : first_from test p 0 ≡ none
+  pub from_none : first_from test p 0 ≡ None
   unfolding first_from
   from_none = refl
 
-  pub from_next : (i : ℕ) {b : Bool} → first_from test p i ≡ none → b ≡ test (p + i) → b ≡ false → first_from test p (i + 1) ≡ none
+  pub from_next : (i : ℕ) {b : Bool} → first_from test p i ≡ None → b ≡ test (p + i) → b ≡ false → first_from test p (i + 1) ≡ None
   unfolding first_from
   from_next i e q f = rw (add-one, first_from, e, ← q, f)
 
-  pub from_here : (i n : ℕ) {b : Bool} → first_from test p i ≡ none → i < n → b ≡ test (p + i) → b ≡ true → first_from test p n ≡ some (p + i)
+  pub from_here : (i n : ℕ) {b : Bool} → first_from test p i ≡ None → i < n → b ≡ test (p + i) → b ≡ true → first_from test p n ≡ Some (p + i)
   unfolding first_from
   from_here i zero e l q t = absurd (not-suc-le-zero l)
   from_here i (suc n) e l q t =
       ⊎_elim
-      (λ z. subst (λ (m : ℕ). first_from test p (suc m) ≡ some (p + i)) z (rw (first_from, e, ← q, t)))
+      (λ z. subst (λ (m : ℕ). first_from test p (suc m) ≡ Some (p + i)) z (rw (first_from, e, ← q, t)))
       (λ h. rw (first_from, from_here i n e h q t))
       (eq-or-lt_of_le (le_of_suc-le-suc l))
 
-  pub from_end : (i n : ℕ) → first_from test p i ≡ none → i ≤ n → n ≤ i → first_from test p n ≡ none
+  pub from_end : (i n : ℕ) → first_from test p i ≡ None → i ≤ n → n ≤ i → first_from test p n ≡ None
   from_end i n e l m = rw (le_antisymm m l) e
 
   -- ---- a loop with no branch: v says whether there is one in the first i
@@ -73,9 +74,9 @@ module _ (test : ℕ → Bool) (p : ℕ) where
   unfolding first_from
   from_split n zero = rw (add-zero n) (sym (or_none (first_from test p n)))
     where
-      or_none : (o : Option ℕ) → or_else o none ≡ o
-      or_none (some i) = refl
-      or_none none = refl
+      or_none : (o : Option ℕ) → or_else o None ≡ o
+      or_none (Some i) = refl
+      or_none None = refl
   from_split n (suc m) =
       rw (add-suc n m, first_from, from_split n m, ← add_assoc p n m) (or_assoc (first_from test p n) (first_from test (p + n) m) _)
 
@@ -90,10 +91,10 @@ pub ruleset spans = (from_none, from_next, from_here, from_end)
 pub ruleset anys = (any_none, any_next, any_end)
 
 -- ---- two ranges, one after the other
-pub seek_here : {a : Option ℕ} (b : Option ℕ) {i : ℕ} → a ≡ some i → or_else a b ≡ some i
+pub seek_here : {a : Option ℕ} (b : Option ℕ) {i : ℕ} → a ≡ Some i → or_else a b ≡ Some i
 seek_here b e = rw e
 
-pub seek_on : {a b : Option ℕ} {o : Option ℕ} → a ≡ none → b ≡ o → or_else a b ≡ o
+pub seek_on : {a b : Option ℕ} {o : Option ℕ} → a ≡ None → b ≡ o → or_else a b ≡ o
 seek_on e f = rw e f
 
 pub ruleset seeks = (seek_here, seek_on)

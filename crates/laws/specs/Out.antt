@@ -1,7 +1,8 @@
 -- What a rule gives, or why it is refused. Rules that follow one another are written with `do`, or joined by `>>`: the order of the lines, or
 -- along `>>`, is the order of the refusals, and the first that refuses is the answer.
 use Rattle.std.specs.Prelude.{ℕ, zero, suc, Bool, true, false}
-use Rattle.std.proofs.Math.Option.{Option, some, none}
+use Rattle.std.specs.declared.option.Option.{Option}
+use Rattle.std.specs.declared.option.Option.TheVariants.{None, Some}
 
 pub data Out (E A : Type 0) : Type 0 where
   given : A → Out E A
@@ -32,18 +33,18 @@ module _ {E : Type 0} where
 
   -- refused for what is there, x of it
   abbrev pub refuse_found : {A : Type 0} → Option A → (A → E) → Out E (Unit {0})
-  refuse_found none x = given tt
-  refuse_found (some a) x = refused (x a)
+  refuse_found None x = given tt
+  refuse_found (Some a) x = refused (x a)
 
   -- what is there; refused for x where there is nothing
   abbrev pub needed : {A : Type 0} → Option A → E → Out E A
-  needed none x = refused x
-  needed (some a) x = given a
+  needed None x = refused x
+  needed (Some a) x = given a
 
   -- what is there already, or else what the next rule gives
   abbrev pub known : {A : Type 0} → Option A → Out E A → Out E A
-  known none m = m
-  known (some a) m = given a
+  known None m = m
+  known (Some a) m = given a
 
   -- a rule for each number below n, in order
   unfoldable pub each : (ℕ → Out E (Unit {0})) → ℕ → Out E (Unit {0})

@@ -1,17 +1,18 @@
 -- The numbers below n: the first that passes a test, whether all pass, those that pass, what is added up or listed over them.
 use Rattle.std.specs.Prelude.{ℕ, zero, suc, ◌+◌, Bool, true, cond, ◌&&◌, List, [], ◌∷◌, ◌++◌, ltb, length, drop}
-use Rattle.std.proofs.Math.Option.{Option, some, none}
+use Rattle.std.specs.declared.option.Option.{Option}
+use Rattle.std.specs.declared.option.Option.TheVariants.{None, Some}
 use Rattle.laws.specs.Options.{or_else}
 
 -- the first number below n that passes the test
 unfoldable pub first : (ℕ → Bool) → ℕ → Option ℕ
-first test zero = none
-first test (suc n) = or_else (first test n) (cond (test n) (some n) none)
+first test zero = None
+first test (suc n) = or_else (first test n) (cond (test n) (Some n) None)
 
 -- the first of the n numbers from p on that passes the test
 unfoldable pub first_from : (ℕ → Bool) → ℕ → ℕ → Option ℕ
-first_from test p zero = none
-first_from test p (suc n) = or_else (first_from test p n) (cond (test (p + n)) (some (p + n)) none)
+first_from test p zero = None
+first_from test p (suc n) = or_else (first_from test p n) (cond (test (p + n)) (Some (p + n)) None)
 
 -- each number below n passes the test
 unfoldable pub all : (ℕ → Bool) → ℕ → Bool

@@ -1,152 +1,161 @@
--- 50, 41, 41 and then the lookup: one law a return. Assumes nothing.
-use Prim.Native.Nat.{ℕ, zero, suc, ◌<◌, ◌≤◌}
-use mathlib.Core.Path.{◌≡◌, refl, sym, ◌∙◌, subst}
-use mathlib.Core.Bool.{true, false, true≢false, ◌||◌}
-use mathlib.Core.Option.{Option, some, none}
-use lib.Dec.{ltb}
+-- What is asked in turn, one law a return: a test that is passed or refused (`indexing`), two kinds (`combining`), one kind (`raising`). Assumes
+-- nothing.
+use Prim.Native.Nat.{ℕ, ◌<◌, ◌≤◌}
+use mathlib.Core.Path.{◌≡◌, refl, ap}
+use mathlib.Core.Bool.{true, false, true≢false}
+use mathlib.Core.List.{List, []}
+use Rattle.std.specs.declared.option.Option.{Option}
+use Rattle.std.specs.declared.option.Option.TheVariants.{None, Some}
+use Rattle.std.specs.declared.result.Result.{Result}
+use Rattle.std.specs.declared.result.Result.TheVariants.{Ok, Err}
+use Rattle.std.specs.Option.{option_map, ok_or}
 use lib.IntN.{ℤ}
-use native.Mathlib.Omega.{arith}
-use borrow.Author.Tests.{lt-ltb, le-ltb, ltb-false}
-use Rattle.laws.specs.Out.{given, refused, needed, ◌>>=◌, ◌>>◌}
-use Rattle.laws.proofs.Cases.{or_neither}
+use borrow.Author.Tests.{lt-ltb, le-ltb}
+use Rattle.laws.specs.Out.{given, refused, ◌>>=◌, ◌>>◌}
 use Rattle.dimension.specs.Fraction as F
 use Rattle.dimension.specs.declared.rational.Rational.{Rational}
-use Rattle.dimension.specs.declared.rational.Ratio.{Ratio}
-use Rattle.dimension.specs.declared.rational.Ratio.TheVariants.{Is, Over}
-use Rattle.rules.specs.Kinds.{Kinds, Rows}
-use Rattle.dimension.specs.declared.grade.ProductOp.TheVariants.{Mul, Div, Dot, Wedge}
+use Rattle.rules.specs.Kinds.{Kinds}
 use Rattle.rules.specs.Refusal as why
-use Rattle.rules.specs.Refusal.{told}
 use Rattle.rules.specs.Arithmetic as rule
+use Rattle.rules.specs.Table.{kinds_of, rows_of}
 use Rattle.rules.specs.Lookup as lone
-use Rattle.error.specs.declared.answer.Answer.{Answer}
+use Rattle.error.specs.Shown.{op_as, op_of, error_of}
+use Rattle.error.specs.declared.cause.Error.{Error}
 use Rattle.error.specs.declared.cause.Error.TheVariants as cause
-use Rattle.registry.specs.Shown.{looked, no, combine_by}
-use Rattle.lookup.specs.Shown.{indexed_combine, indexed_power, power_by, exponent_of}
+use Rattle.error.specs.declared.op.Op.{Op}
+use Rattle.registry.specs.Shown.{looked}
+use Rattle.lookup.specs.Shown.{tested, lent, lent_combine, lent_power, indexed_combine, indexed_power, power_by, exponent_of}
 use Rattle.lookup.specs.declared.lone.Exponent.{Exponent}
 use Rattle.lookup.specs.declared.lone.Exponent.TheVariants as exponent
 
--- ---- the codes 2 to 7
-op_outside : (n : ℕ) → (ltb n 2 || ltb 7 n) ≡ true → rule.op_by n ≡ none
-unfolding rule.op_by
-op_outside zero e = refl
-op_outside (suc zero) e = refl
-op_outside (suc (suc zero)) e = cc
-op_outside (suc (suc (suc zero))) e = cc
-op_outside (suc (suc (suc (suc zero)))) e = cc
-op_outside (suc (suc (suc (suc (suc zero))))) e = cc
-op_outside (suc (suc (suc (suc (suc (suc zero)))))) e = cc
-op_outside (suc (suc (suc (suc (suc (suc (suc zero))))))) e = cc
-op_outside (suc (suc (suc (suc (suc (suc (suc (suc n)))))))) e = refl
-
--- ---- kinds that are there, and not
+-- ---- 41
 module _ (K : Kinds) (k : ℕ) {c : ℕ} (e : c ≡ K.count) where
-  index_past : c ≤ k → ltb k K.count ≡ false
-  index_past h = rw (← e) (le-ltb k c h)
+  pub index_past : c ≤ k → Err (cause.NoKind k) ≡ tested (rule.indexed K k)
+  unfolding tested rule.indexed
+  index_past h = rw (← e, le-ltb k c h)
 
-  index_in : k < c → ltb k K.count ≡ true
-  index_in h = rw (← e) (lt-ltb k c h)
+  pub index_in : k < c → Ok tt ≡ tested (rule.indexed K k)
+  unfolding tested rule.indexed
+  index_in h = rw (← e, lt-ltb k c h)
+
+pub ruleset indexing = (index_past, index_in)
+
+-- ---- after a test, a rule
+module _ (m : why.Answer (Unit {0})) (n : why.Answer ℕ) where
+  test_refused : {e : Error} → Err e ≡ tested m → Err e ≡ looked (m >> n)
+  unfolding tested looked
+  test_refused {e} p = go m p
+    where
+      go : (m : why.Answer (Unit {0})) → Err e ≡ tested m → Err e ≡ looked (m >> n)
+      go (given u) q = let z : true ≡ false = cc in absurd (true≢false z)
+      go (refused x) q = let z : e ≡ error_of x = cc in ap Err z
+
+  test_passed : {u : Unit {0}} {v : Result ℕ Error} → Ok u ≡ tested m → v ≡ looked n → v ≡ looked (m >> n)
+  unfolding tested
+  test_passed {u} {v} p h = go m p
+    where
+      go : (m : why.Answer (Unit {0})) → Ok u ≡ tested m → v ≡ looked (m >> n)
+      go (given w) q = h
+      go (refused x) q = let z : true ≡ false = cc in absurd (true≢false z)
+
+-- ---- the operation of a code: q is the rules'
+op_back : (o : rule.Op) → op_of (op_as o) ≡ o
+op_back (rule.summed rule.Add) = refl
+op_back (rule.summed rule.Sub) = refl
+op_back (rule.multiplied op) = refl
+
+module _ (e : Error) where
+  op_read : (q : Option rule.Op) {op : Op} → Ok op ≡ ok_or (option_map op_as q) e → q ≡ Some (op_of op)
+  op_read (Some a) {op} p = let z : op ≡ op_as a = cc in rw (z, op_back a)
+  op_read None p = let z : true ≡ false = cc in absurd (true≢false z)
+
+  op_unread : (q : Option rule.Op) {x : Error} → Err x ≡ ok_or (option_map op_as q) e → (q ≡ None) × (x ≡ e)
+  op_unread (Some a) p = let z : true ≡ false = cc in absurd (true≢false z)
+  op_unread None p = (refl, cc)
 
 -- ---- two kinds
--- of a code there is an operation, and then the rules go on
-module _ (K : Kinds) (R : Rows) (l r : ℕ) where
-  abbrev onward : rule.Op → why.Answer ℕ
-  onward op = rule.indexed K l >> (rule.indexed K r >> rule.combine K R op l r)
+module _ (t rows twins : List ℕ) (code l r : ℕ) where
+  pub combine_unlent : {e : Error} → Err e ≡ tested (lent t rows twins) → Err e ≡ looked (lent_combine t rows twins code l r)
+  unfolding lent_combine
+  combine_unlent p = test_refused (lent t rows twins) (indexed_combine (kinds_of t) (rows_of rows) code l r) p
 
-  first_left : (o : Option rule.Op) (op : rule.Op) → o ≡ some op → ltb l K.count ≡ false → no (cause.NoKind l) ≡ looked (needed o (why.Malformed 0) >>= onward)
-  unfolding looked told rule.indexed
-  first_left o op p h = rw (p, h)
+  module _ {u : Unit {0}} (a : Ok u ≡ tested (lent t rows twins)) {o : Option Op} (f : o ≡ option_map op_as (rule.op_by code)) where
+    onward : {v : Result ℕ Error} → v ≡ looked (indexed_combine (kinds_of t) (rows_of rows) code l r) → v ≡ looked (lent_combine t rows twins code l r)
+    unfolding lent_combine
+    onward h = test_passed (lent t rows twins) (indexed_combine (kinds_of t) (rows_of rows) code l r) a h
 
-  then_right : (o : Option rule.Op) (op : rule.Op) → o ≡ some op → ltb l K.count ≡ true → ltb r K.count ≡ false → no (cause.NoKind r) ≡ looked (needed o (why.Malformed 0) >>= onward)
-  unfolding looked told rule.indexed
-  then_right o op p h g = rw (p, h, g)
+    pub combine_unread : {x : Error} → Err x ≡ ok_or o (cause.Malformed 0) → Err x ≡ looked (lent_combine t rows twins code l r)
+    unfolding looked indexed_combine
+    combine_unread p = let z = op_unread (cause.Malformed 0) (rule.op_by code) (rw f at p) in onward (rw (z.0, z.1))
 
-  then_both : (o : Option rule.Op) (op : rule.Op) → o ≡ some op → ltb l K.count ≡ true → ltb r K.count ≡ true
-      → looked (needed o (why.Malformed 0) >>= λ x. rule.combine K R x l r) ≡ looked (needed o (why.Malformed 0) >>= onward)
-  unfolding looked rule.indexed
-  then_both o op p h g = rw (p, h, g)
+    module _ {op : Op} (p : Ok op ≡ ok_or o (cause.Malformed 0)) where
+      read : rule.op_by code ≡ Some (op_of op)
+      read = op_read (cause.Malformed 0) (rule.op_by code) (rw f at p)
 
--- the operation of a code from 2 to 7
-op_inside : (n : ℕ) → (ltb n 2 || ltb 7 n) ≡ false → (op : rule.Op) × (rule.op_by n ≡ some op)
-unfolding rule.op_by
-op_inside zero e = let z : true ≡ false = e in absurd (true≢false z)
-op_inside (suc zero) e = let z : true ≡ false = e in absurd (true≢false z)
-op_inside (suc (suc zero)) e = (rule.summed rule.Add, refl)
-op_inside (suc (suc (suc zero))) e = (rule.summed rule.Sub, refl)
-op_inside (suc (suc (suc (suc zero)))) e = (rule.multiplied Mul, refl)
-op_inside (suc (suc (suc (suc (suc zero))))) e = (rule.multiplied Div, refl)
-op_inside (suc (suc (suc (suc (suc (suc zero)))))) e = (rule.multiplied Dot, refl)
-op_inside (suc (suc (suc (suc (suc (suc (suc zero))))))) e = (rule.multiplied Wedge, refl)
-op_inside (suc (suc (suc (suc (suc (suc (suc (suc n)))))))) e =
-    let m : ℕ = suc (suc (suc (suc (suc (suc (suc (suc n))))))) in
-    let h = ltb-false 7 m (or_neither (ltb m 2) (ltb 7 m) e).1 in
-    absurd (omega arith)
+      by_op : {v : Result ℕ Error} → v ≡ looked (rule.indexed (kinds_of t) l >> (rule.indexed (kinds_of t) r >> rule.combine (kinds_of t) (rows_of rows) (op_of op) l r)) → v ≡ looked (lent_combine t rows twins code l r)
+      unfolding indexed_combine
+      by_op h = onward (rw read h)
 
-module _ (K : Kinds) (R : Rows) (code l r : ℕ) (p : (ltb code 2 || ltb 7 code) ≡ false) (h : ltb l K.count ≡ false) where
-  left_past : no (cause.NoKind l) ≡ looked (indexed_combine K R code l r)
-  unfolding indexed_combine
-  left_past = let s = op_inside code p in first_left K R l r (rule.op_by code) s.0 s.1 h
+      pub combine_left : {e : Error} → Err e ≡ tested (rule.indexed (kinds_of t) l) → Err e ≡ looked (lent_combine t rows twins code l r)
+      combine_left b = by_op (test_refused (rule.indexed (kinds_of t) l) _ b)
 
-module _ (K : Kinds) (R : Rows) (code l r : ℕ) (p : (ltb code 2 || ltb 7 code) ≡ false) (h : ltb l K.count ≡ true) where
-  right_past : ltb r K.count ≡ false → no (cause.NoKind r) ≡ looked (indexed_combine K R code l r)
-  unfolding indexed_combine
-  right_past g = let s = op_inside code p in then_right K R l r (rule.op_by code) s.0 s.1 h g
+      module _ {w : Unit {0}} (b : Ok w ≡ tested (rule.indexed (kinds_of t) l)) where
+        pub combine_right : {e : Error} → Err e ≡ tested (rule.indexed (kinds_of t) r) → Err e ≡ looked (lent_combine t rows twins code l r)
+        combine_right d = by_op (test_passed (rule.indexed (kinds_of t) l) _ b (test_refused (rule.indexed (kinds_of t) r) _ d))
 
-  combined_in : ltb r K.count ≡ true → looked (combine_by K R code l r) ≡ looked (indexed_combine K R code l r)
-  unfolding indexed_combine combine_by
-  combined_in g = let s = op_inside code p in then_both K R l r (rule.op_by code) s.0 s.1 h g
+        pub combine_in : {x : Unit {0}} {v : Result ℕ Error} → Ok x ≡ tested (rule.indexed (kinds_of t) r) → v ≡ looked (rule.combine (kinds_of t) (rows_of rows) (op_of op) l r) → v ≡ looked (lent_combine t rows twins code l r)
+        combine_in d h = by_op (test_passed (rule.indexed (kinds_of t) l) _ b (test_passed (rule.indexed (kinds_of t) r) _ d h))
 
-module _ (K : Kinds) (R : Rows) (code l r : ℕ) {v : Answer} where
-  pub no_code : (ltb code 2 || ltb 7 code) ≡ true → v ≡ no (cause.Malformed 0) → v ≡ looked (indexed_combine K R code l r)
-  unfolding looked told indexed_combine
-  no_code p h = rw (op_outside code p) h
-
-  module _ (p : (ltb code 2 || ltb 7 code) ≡ false) {c : ℕ} (e : c ≡ K.count) where
-    pub no_left : c ≤ l → v ≡ no (cause.NoKind l) → v ≡ looked (indexed_combine K R code l r)
-    no_left h q = q ∙ left_past K R code l r p (index_past K l e h)
-
-    module _ (h : l < c) {d : ℕ} (f : d ≡ K.count) where
-      pub no_right : d ≤ r → v ≡ no (cause.NoKind r) → v ≡ looked (indexed_combine K R code l r)
-      no_right g q = q ∙ right_past K R code l r p (index_in K l e h) (index_past K r f g)
-
-      pub both_in : r < d → v ≡ looked (combine_by K R code l r) → v ≡ looked (indexed_combine K R code l r)
-      both_in g q = q ∙ combined_in K R code l r p (index_in K l e h) (index_in K r f g)
-
-pub ruleset combining = (no_code, no_left, no_right, both_in)
+pub ruleset combining = (combine_unlent, combine_unread, combine_left, combine_right, combine_in)
 
 -- ---- one kind
-module _ (K : Kinds) (code k : ℕ) (o : Option Rational) {v : Answer} {c : ℕ} (e : c ≡ K.count) where
-  pub no_base : c ≤ k → v ≡ no (cause.NoKind k) → v ≡ looked (indexed_power K code k o)
-  unfolding looked told indexed_power rule.indexed
-  no_base h q = rw (index_past K k e h) q
+module _ (K : Kinds) (k : ℕ) where
+  module _ (num : ℤ) (den : ℕ) {o : Option Rational} (f : o ≡ F.answer num den) where
+    pub exact_unread : {x : Error} → Err x ≡ ok_or o (cause.Malformed 0) → Err x ≡ looked (power_by K k (lone.exact num den))
+    unfolding looked power_by
+    exact_unread {x} p = go (F.answer num den) (rw f at p)
+      where
+        go : (q : Option Rational) → Err x ≡ ok_or q (cause.Malformed 0) → Err x ≡ looked (elim q [ Some e ↦ given (Some e) | None ↦ refused (why.Malformed 0) ] >>= λ e. indexed_power K 8 k e)
+        go (Some e) z = let y : true ≡ false = cc in absurd (true≢false y)
+        go None z = let y : x ≡ cause.Malformed 0 = cc in ap Err y
 
-  pub base_in : k < c → v ≡ looked (rule.power K code k o) → v ≡ looked (indexed_power K code k o)
-  unfolding indexed_power rule.indexed
-  base_in h q = rw (index_in K k e h) q
+    module _ {e : Rational} (p : Ok e ≡ ok_or o (cause.Malformed 0)) where
+      by_exact : {v : Result ℕ Error} → v ≡ looked (indexed_power K 8 k (Some e)) → v ≡ looked (power_by K k (lone.exact num den))
+      unfolding power_by
+      by_exact {v} h = go (F.answer num den) (rw f at p)
+        where
+          go : (q : Option Rational) → Ok e ≡ ok_or q (cause.Malformed 0) → v ≡ looked (elim q [ Some e ↦ given (Some e) | None ↦ refused (why.Malformed 0) ] >>= λ e. indexed_power K 8 k e)
+          go (Some d) z = let y : e ≡ d = cc in rw (← y) h
+          go None z = let y : true ≡ false = cc in absurd (true≢false y)
 
--- a power by an exponent that is reduced, or over the limits
-abbrev reduced_power : Kinds → ℕ → Ratio → why.Answer ℕ
-reduced_power K k u = elim u [ Is e ↦ given (some e) | Over ↦ refused (why.Malformed 0) ] >>= λ e. indexed_power K 8 k e
+      pub exact_past : {x : Error} → Err x ≡ tested (rule.indexed K k) → Err x ≡ looked (power_by K k (lone.exact num den))
+      unfolding indexed_power
+      exact_past b = by_exact (test_refused (rule.indexed K k) (rule.power K 8 k (Some e)) b)
 
-module _ (K : Kinds) (k : ℕ) {v : Answer} where
-  module _ (num : ℤ) (den : ℕ) {u : Ratio} (f : u ≡ F.answer num den) where
-    pub exact_within : {e : Rational} → u ≡ Is e → v ≡ looked (indexed_power K 8 k (some e)) → v ≡ looked (power_by K k (lone.exact num den))
-    unfolding power_by
-    exact_within p h = subst (λ (u : Ratio). v ≡ looked (reduced_power K k u)) (sym p ∙ f) h
+      pub exact_in : {u : Unit {0}} {v : Result ℕ Error} → Ok u ≡ tested (rule.indexed K k) → v ≡ looked (rule.power K 8 k (Some e)) → v ≡ looked (power_by K k (lone.exact num den))
+      unfolding indexed_power
+      exact_in b h = by_exact (test_passed (rule.indexed K k) (rule.power K 8 k (Some e)) b h)
 
-    pub exact_over : u ≡ Over → v ≡ no (cause.Malformed 0) → v ≡ looked (power_by K k (lone.exact num den))
-    unfolding looked told power_by
-    exact_over p h = subst (λ (u : Ratio). v ≡ looked (reduced_power K k u)) (sym p ∙ f) h
+  pub inexact_past : {x : Error} → Err x ≡ tested (rule.indexed K k) → Err x ≡ looked (power_by K k lone.inexact)
+  unfolding power_by indexed_power
+  inexact_past b = test_refused (rule.indexed K k) (rule.power K 9 k None) b
 
-  pub inexactly : v ≡ looked (indexed_power K 9 k none) → v ≡ looked (power_by K k lone.inexact)
-  unfolding power_by
-  inexactly h = h
+  pub inexact_in : {u : Unit {0}} {v : Result ℕ Error} → Ok u ≡ tested (rule.indexed K k) → v ≡ looked (rule.power K 9 k None) → v ≡ looked (power_by K k lone.inexact)
+  unfolding power_by indexed_power
+  inexact_in b h = test_passed (rule.indexed K k) (rule.power K 9 k None) b h
 
-  module _ {x : Exponent} where
-    pub by_exact : {num : ℤ} {den : ℕ} → x ≡ exponent.Exact num den → v ≡ looked (power_by K k (lone.exact num den)) → v ≡ looked (power_by K k (exponent_of x))
-    by_exact p h = rw p h
+module _ (t twins : List ℕ) (k : ℕ) where
+  pub power_unlent : (x : Exponent) {e : Error} → Err e ≡ tested (lent t [] twins) → Err e ≡ looked (lent_power t twins k (exponent_of x))
+  unfolding lent_power
+  power_unlent x p = test_refused (lent t [] twins) (power_by (kinds_of t) k (exponent_of x)) p
 
-    pub by_inexact : x ≡ exponent.Inexact → v ≡ looked (power_by K k lone.inexact) → v ≡ looked (power_by K k (exponent_of x))
-    by_inexact p h = rw p h
+  module _ {x : Exponent} {u : Unit {0}} (a : Ok u ≡ tested (lent t [] twins)) where
+    pub power_exact : {num : ℤ} {den : ℕ} {v : Result ℕ Error} → x ≡ exponent.Exact num den → v ≡ looked (power_by (kinds_of t) k (lone.exact num den)) → v ≡ looked (lent_power t twins k (exponent_of x))
+    unfolding lent_power
+    power_exact {num} {den} p h = rw p (test_passed (lent t [] twins) (power_by (kinds_of t) k (lone.exact num den)) a h)
 
-pub ruleset raising = (no_base, base_in, exact_within, exact_over, inexactly, by_exact, by_inexact)
+    pub power_inexact : {v : Result ℕ Error} → x ≡ exponent.Inexact → v ≡ looked (power_by (kinds_of t) k lone.inexact) → v ≡ looked (lent_power t twins k (exponent_of x))
+    unfolding lent_power
+    power_inexact p h = rw p (test_passed (lent t [] twins) (power_by (kinds_of t) k lone.inexact) a h)
+
+pub ruleset raising = (exact_unread, exact_past, exact_in, inexact_past, inexact_in, power_unlent, power_exact, power_inexact)

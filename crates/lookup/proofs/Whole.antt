@@ -1,102 +1,76 @@
--- A lone lookup whole: 5, 40, and then what the parts answer. `Done` says that an answer and the lent list are as the rules say. Assumes nothing.
-use Prim.Native.Nat.{ℕ, ◌<◌, ◌≤◌}
-use mathlib.Core.Path.{◌≡◌, refl, sym, ◌∙◌}
-use mathlib.Core.Bool.{Bool, true, false, not, ◌&&◌}
+-- A lone lookup whole: its place, and the lent list after it (`wholes`). Assumes nothing.
+use Prim.Native.Nat.{ℕ}
+use mathlib.Core.Path.{◌≡◌, refl, sym, ◌∙◌, ap}
 use mathlib.Core.List.{List, []}
-use borrow.Author.Tests.{lt-ltb, le-ltb, not-true, not-false}
-use lib.ListN.{length}
-use Rattle.laws.specs.Out.{◌>>◌}
+use Rattle.std.specs.declared.result.Result.{Result}
+use Rattle.laws.specs.Out.{given, refused, ◌>>◌}
 use Rattle.rules.specs.Refusal as why
-use Rattle.rules.specs.Refusal.{Placed, told, twins_after}
-use Rattle.rules.specs.Table.{kinds_of, rows_of, is_table, are_rows}
+use Rattle.rules.specs.Refusal.{Placed, twins_after}
+use Rattle.rules.specs.Table.{kinds_of, rows_of}
 use Rattle.rules.specs.Lookup as lone
-use Rattle.valid.proofs.Tells.{no_rows}
-use Rattle.error.specs.declared.answer.Answer.{Answer}
-use Rattle.error.specs.declared.cause.Error.TheVariants as cause
+use Rattle.error.specs.Shown.{shown}
+use Rattle.error.specs.declared.cause.Error.{Error}
+use Rattle.error.specs.declared.fault.Fault.{Fault}
 use Rattle.fitting.specs.Shown.{room_listed}
-use Rattle.registry.specs.Shown.{looked, no}
-use Rattle.lookup.specs.Shown.{placed, name_of, twins_of, indexed_combine, indexed_power, power_by}
-use Rattle.lookup.proofs.NamedTwins.{Names, combined_names, powered_names, listed_after}
+use Rattle.registry.specs.Shown.{looked}
+use Rattle.lookup.specs.Shown.{placed, at_start, name_of, twins_of, lent, lent_combine, lent_power, indexed_combine, indexed_power, power_by}
+use Rattle.lookup.proofs.NamedTwins.{Names, placed_names, combined_names, powered_names, lent_after}
 
-abbrev pub Done : Placed ℕ → Answer → List ℕ → List ℕ → Type 0
-Done m v new old = (v ≡ placed m) × (new ≡ twins_after m old)
+-- ---- two tests and a rule, grouped either way; placed together or each by itself
+after : {A : Type 0} (m n : why.Answer (Unit {0})) (q : why.Answer A) → (m >> n) >> q ≡ m >> (n >> q)
+after (given u) n q = refl
+after (refused x) n q = refl
 
--- 5 and 40, and what is then looked up
-abbrev opened : List ℕ → List ℕ → List ℕ → why.Answer ℕ → Placed ℕ
-opened t rows old m = why.at 0 (lone.roomy t old >> (lone.tabled t rows >> m))
+apart : {A : Type 0} (m : why.Answer (Unit {0})) (q : why.Answer A) → why.at 0 (m >> q) ≡ why.at 0 m >> why.at 0 q
+apart (given u) q = refl
+apart (refused x) q = refl
 
-module _ (t rows old : List ℕ) (m : why.Answer ℕ) {v : Answer} where
-  table_short : length t < 9296 → v ≡ no (cause.Short (length t)) → Done (opened t rows old m) v old old
-  unfolding lone.roomy placed told twins_after
-  table_short h e = rw (lt-ltb (length t) 9296 h) (e, refl)
+pub after_placed : {A : Type 0} (m n : why.Answer (Unit {0})) (q : Placed A) → why.at 0 (m >> n) >> q ≡ why.at 0 m >> (why.at 0 n >> q)
+after_placed (given u) n q = refl
+after_placed (refused x) n q = refl
 
-  module _ (a : 9296 ≤ length t) where
-    list_short : length old < 240 → v ≡ no (cause.Short (length old)) → Done (opened t rows old m) v old old
-    unfolding lone.roomy placed told twins_after
-    list_short h e = rw (le-ltb (length t) 9296 a, lt-ltb (length old) 240 h) (e, refl)
+-- ---- the place
+start : (m : why.Answer ℕ) → at_start (looked m) ≡ placed (why.at 0 m)
+unfolding at_start looked placed
+start (given k) = refl
+start (refused x) = refl
 
-    module _ (b : 240 ≤ length old) where
-      no_table : (is_table t && are_rows t rows) ≡ false → v ≡ no cause.NoTable → Done (opened t rows old m) v old old
-      unfolding lone.roomy lone.tabled placed told twins_after
-      no_table h e = rw (le-ltb (length t) 9296 a, le-ltb (length old) 240 b, h) (e, refl)
+-- ---- what is looked up is m, after 5 and 40
+module _ (t rows old : List ℕ) (m : why.Answer ℕ) where
+  pub lists : Names (kinds_of t) m → {new : List ℕ} → new ≡ room_listed (twins_of (kinds_of t) (name_of (at_start (looked (lent t rows old >> m))))) old → new ≡ twins_after (why.at 0 (lent t rows old >> m)) old
+  unfolding placed
+  lists n {new} e =
+      let z : at_start (looked (lent t rows old >> m)) ≡ shown (λ k. k) (why.at 0 (lent t rows old) >> why.at 0 m) = start (lent t rows old >> m) ∙ ap placed (apart (lent t rows old) m) in
+      let f : new ≡ room_listed (twins_of (kinds_of t) (name_of (shown (λ (k : ℕ). k) (why.at 0 (lent t rows old) >> why.at 0 m)))) old = e ∙ ap (λ (v : Result ℕ Fault). room_listed (twins_of (kinds_of t) (name_of v)) old) z in
+      lent_after (λ (k : ℕ). k) (kinds_of t) old t rows (why.at 0 m) (placed_names (kinds_of t) m n) f ∙ ap (λ (q : Placed ℕ). twins_after q old) (sym (apart (lent t rows old) m))
 
-      looked_up : (is_table t && are_rows t rows) ≡ true → v ≡ looked m → Names (kinds_of t) m → {new : List ℕ} → new ≡ room_listed (twins_of (kinds_of t) (name_of v.verdict)) old → Done (opened t rows old m) v new old
-      unfolding lone.roomy lone.tabled placed looked
-      looked_up h e n {new} f =
-          let g : new ≡ room_listed (twins_of (kinds_of t) (name_of (looked m).verdict)) old = rw e at f in
-          rw (le-ltb (length t) 9296 a, le-ltb (length old) 240 b, h) (e, listed_after (kinds_of t) m old b n g)
+-- ---- v is what was looked up, w what is handed back
+module _ (t rows old : List ℕ) (code l r : ℕ) {v : Result ℕ Error} (e : v ≡ looked (lent_combine t rows old code l r)) where
+  combine_is : why.at 0 (lent_combine t rows old code l r) ≡ lone.combine t rows old code l r
+  unfolding lent_combine lent lone.combine indexed_combine
+  combine_is = ap (why.at 0) (after (lone.roomy t old) (lone.tabled t rows) (indexed_combine (kinds_of t) (rows_of rows) code l r))
 
--- ---- met by the code: x and y are what its tests said
-module _ (t rows old : List ℕ) (code l r : ℕ) {v : Answer} where
-  pub combine_short : length t < 9296 → v ≡ no (cause.Short (length t)) → Done (lone.combine t rows old code l r) v old old
-  unfolding lone.combine indexed_combine
-  combine_short h e = table_short t rows old (indexed_combine (kinds_of t) (rows_of rows) code l r) h e
+  pub combine_value : {w : Result ℕ Fault} → w ≡ at_start v → w ≡ placed (lone.combine t rows old code l r)
+  combine_value h = h ∙ ap at_start e ∙ start (lent_combine t rows old code l r) ∙ ap placed combine_is
 
-  module _ (a : 9296 ≤ length t) where
-    pub combine_list : length old < 240 → v ≡ no (cause.Short (length old)) → Done (lone.combine t rows old code l r) v old old
-    unfolding lone.combine indexed_combine
-    combine_list h e = list_short t rows old (indexed_combine (kinds_of t) (rows_of rows) code l r) a h e
+  pub combine_list : {new : List ℕ} → new ≡ room_listed (twins_of (kinds_of t) (name_of (at_start v))) old → new ≡ twins_after (lone.combine t rows old code l r) old
+  unfolding lent_combine
+  combine_list h =
+      lists t rows old (indexed_combine (kinds_of t) (rows_of rows) code l r) (combined_names (kinds_of t) (rows_of rows) code l r) (h ∙ ap (λ (q : Result ℕ Error). room_listed (twins_of (kinds_of t) (name_of (at_start q))) old) e)
+      ∙ ap (λ (q : Placed ℕ). twins_after q old) combine_is
 
-    module _ (b : 240 ≤ length old) {x : Bool} (p : x ≡ is_table t) where
-      pub combine_words : not x ≡ true → v ≡ no cause.NoTable → Done (lone.combine t rows old code l r) v old old
-      unfolding lone.combine indexed_combine
-      combine_words q e = let z = sym p ∙ not-true x q in no_table t rows old (indexed_combine (kinds_of t) (rows_of rows) code l r) a b (rw z) e
+module _ (t old : List ℕ) (k : ℕ) (x : lone.Exponent) {v : Result ℕ Error} (e : v ≡ looked (lent_power t old k x)) where
+  power_is : why.at 0 (lent_power t old k x) ≡ lone.power t old k x
+  unfolding lent_power lent lone.power power_by indexed_power
+  power_is = ap (why.at 0) (after (lone.roomy t old) (lone.tabled t []) (power_by (kinds_of t) k x))
 
-      module _ (q : not x ≡ false) {y : Bool} (s : y ≡ are_rows t rows) where
-        pub combine_rows : not y ≡ true → v ≡ no cause.NoTable → Done (lone.combine t rows old code l r) v old old
-        unfolding lone.combine indexed_combine
-        combine_rows u e =
-            let z = sym p ∙ not-false x q in
-            let w = sym s ∙ not-true y u in
-            no_table t rows old (indexed_combine (kinds_of t) (rows_of rows) code l r) a b (rw (z, w)) e
+  pub power_value : {w : Result ℕ Fault} → w ≡ at_start v → w ≡ placed (lone.power t old k x)
+  power_value h = h ∙ ap at_start e ∙ start (lent_power t old k x) ∙ ap placed power_is
 
-        pub combine_done : not y ≡ false → v ≡ looked (indexed_combine (kinds_of t) (rows_of rows) code l r) → {new : List ℕ} → new ≡ room_listed (twins_of (kinds_of t) (name_of v.verdict)) old
-            → Done (lone.combine t rows old code l r) v new old
-        unfolding lone.combine indexed_combine
-        combine_done u e f =
-            let z = sym p ∙ not-false x q in
-            let w = sym s ∙ not-false y u in
-            looked_up t rows old (indexed_combine (kinds_of t) (rows_of rows) code l r) a b (rw (z, w)) e (combined_names (kinds_of t) (rows_of rows) code l r) f
+  pub power_list : {new : List ℕ} → new ≡ room_listed (twins_of (kinds_of t) (name_of (at_start v))) old → new ≡ twins_after (lone.power t old k x) old
+  unfolding lent_power
+  power_list h =
+      lists t [] old (power_by (kinds_of t) k x) (powered_names (kinds_of t) k x) (h ∙ ap (λ (q : Result ℕ Error). room_listed (twins_of (kinds_of t) (name_of (at_start q))) old) e)
+      ∙ ap (λ (q : Placed ℕ). twins_after q old) power_is
 
-pub ruleset combinations = (combine_short, combine_list, combine_words, combine_rows, combine_done)
-
-module _ (t old : List ℕ) (k : ℕ) (o : lone.Exponent) {v : Answer} where
-  pub power_short : length t < 9296 → v ≡ no (cause.Short (length t)) → Done (lone.power t old k o) v old old
-  unfolding lone.power power_by indexed_power
-  power_short h e = table_short t [] old (power_by (kinds_of t) k o) h e
-
-  module _ (a : 9296 ≤ length t) where
-    pub power_list : length old < 240 → v ≡ no (cause.Short (length old)) → Done (lone.power t old k o) v old old
-    unfolding lone.power power_by indexed_power
-    power_list h e = list_short t [] old (power_by (kinds_of t) k o) a h e
-
-    module _ (b : 240 ≤ length old) {x : Bool} (p : x ≡ is_table t) where
-      pub power_words : not x ≡ true → v ≡ no cause.NoTable → Done (lone.power t old k o) v old old
-      unfolding lone.power power_by indexed_power
-      power_words q e = let z = sym p ∙ not-true x q in no_table t [] old (power_by (kinds_of t) k o) a b (rw z) e
-
-      pub power_done : not x ≡ false → v ≡ looked (power_by (kinds_of t) k o) → {new : List ℕ} → new ≡ room_listed (twins_of (kinds_of t) (name_of v.verdict)) old → Done (lone.power t old k o) v new old
-      unfolding lone.power power_by indexed_power
-      power_done q e f = let z = sym p ∙ not-false x q in looked_up t [] old (power_by (kinds_of t) k o) a b (rw (z, no_rows t)) e (powered_names (kinds_of t) k o) f
-
-pub ruleset raisings = (power_short, power_list, power_words, power_done)
+pub ruleset wholes = (combine_value, combine_list, power_value, power_list)

@@ -5,23 +5,23 @@ ghost use Rattle.rules.specs.Table.{kinds_of};
 ghost use Rattle.dimension.specs.Dimension as D;
 ghost use Rattle.fitting.specs.Shown.{at, room_listed};
 ghost use Rattle.joined.specs.Shown.{dims_at};
-ghost use Rattle.lookup.specs.Shown.{op_by, named, name_of, fits_derived, twins_of};
+ghost use Rattle.lookup.specs.Shown.{op_by, named, name_of, fits_derived, twins_from, twins_of};
 
-use derive::{Ruling, derive};
-use dimension::{ProductOp, Rational};
-use error::{Error, Verdict};
+use derive::derive;
+use dimension::{Dimensions, ProductOp, Rational};
+use error::{Error, Fault};
 use fitting::list_candidates;
 use table::dims_of;
 
-// What a refusal names: the left, operation and right of a product, the base and exponent of a power, or nothing.
+// What several kinds fit: the left, operation and right of a product, or the base and exponent of a power.
 #[derive(Clone, Copy)]
 pub(crate) enum Origin {
-    Nothing,
     Product(u16, ProductOp, u16),
     Power(u16, Rational),
 }
 
 // The operation whose token has this code.
+#[tactic(auto, using(crate::proofs::Named::op_else), unfolding(crate::specs::Shown::op_by))]
 pub fn op_of(code: u8) -> ProductOp
     ensures { result ≡ op_by code }
 {
@@ -33,69 +33,60 @@ pub fn op_of(code: u8) -> ProductOp
     }
 }
 
-fn named(e: Error) -> Origin
+// What a refusal names.
+#[tactic(auto, using(crate::proofs::Named::named_else), unfolding(crate::specs::Shown::named))]
+fn named(e: Error) -> Option<Origin>
     ensures { result ≡ named e }
 {
-    if let Error::UnresolvedTwin(l, c, r, n) = e {
-        return Origin::Product(l, op_of(c), r);
+    match e {
+        Error::UnresolvedTwin(l, op, r, n) => Some(Origin::Product(l, op, r)),
+        Error::UnresolvedPowerTwin(k, e, n) => Some(Origin::Power(k, e)),
+        _ => None,
     }
-    if let Error::UnresolvedPowerTwin(k, num, den, n) = e {
-        return Origin::Power(k, Rational { num, den });
-    }
-    Origin::Nothing
 }
 
+#[tactic(auto, using(crate::proofs::Listing::listing), unfolding(crate::specs::Shown::fits_derived))]
 fn list_product(t: &[u32], l: u16, op: ProductOp, r: u16, twins: &mut [u16])
     ensures { twins.new ≡ room_listed (fits_derived (kinds_of t.now) l op r) twins.old }
 {
-    let x = derive(t, l, op, r);
-    let ruling = x.ruling;
-    if let Ruling::Refused(e) = ruling {
-        return;
+    if let Ok(x) = derive(t, l, op, r) {
+        list_candidates(t, x.dims, x.grade, twins);
     }
-    list_candidates(t, x.dims, x.grade, twins);
 }
 
+#[tactic(auto, using(crate::proofs::Listing::listing))]
 fn list_power(t: &[u32], k: u16, e: Rational, twins: &mut [u16])
-    ensures { twins.new ≡ room_listed (K.candidates (kinds_of t.now) (at (D.power (dims_at (kinds_of t.now) k) e).value 0)) twins.old }
+    ensures { twins.new ≡ room_listed (K.candidates (kinds_of t.now) (at (D.or_one (D.power (dims_at (kinds_of t.now) k) e)) 0)) twins.old }
 {
-    let d = dims_of(t, k);
-    let power = d.pow(e);
-    list_candidates(t, power.value, 0, twins);
+    let power = dims_of(t, k).pow(e).unwrap_or(Dimensions::one());
+    list_candidates(t, power, 0, twins);
 }
 
-fn list_named(t: &[u32], n: Origin, twins: &mut [u16])
-    ensures { twins.new ≡ room_listed (twins_of (kinds_of t.now) n) twins.old }
+#[tactic(auto, unfolding(crate::specs::Shown::twins_from))]
+fn list_origin(t: &[u32], origin: Origin, twins: &mut [u16])
+    ensures { twins.new ≡ room_listed (twins_from (kinds_of t.now) origin) twins.old }
 {
-    match n {
-        Origin::Nothing => {
-            return;
-        }
-        Origin::Product(l, op, r) => {
-            list_product(t, l, op, r, twins);
-        }
-        Origin::Power(k, e) => {
-            list_power(t, k, e, twins);
-        }
+    match origin {
+        Origin::Product(l, op, r) => list_product(t, l, op, r, twins),
+        Origin::Power(k, e) => list_power(t, k, e, twins),
     }
 }
 
-// The twins that a verdict names, from the front of the lent list; a list under 240 entries stays as it was.
-pub fn list_twins(t: &[u32], verdict: Verdict, twins: &mut [u16])
-    ensures { twins.new ≡ room_listed (twins_of (kinds_of t.now) (name_of verdict)) twins.old }
+#[tactic(auto, using(crate::proofs::Listing::list_none), unfolding(crate::specs::Shown::twins_of))]
+fn list_named(t: &[u32], e: Error, twins: &mut [u16])
+    ensures { twins.new ≡ room_listed (twins_of (kinds_of t.now) (named e)) twins.old }
 {
-    match verdict {
-        Verdict::Fine => {
-            return;
-        }
-        Verdict::Number => {
-            return;
-        }
-        Verdict::Kind(k) => {
-            return;
-        }
-        Verdict::Refused(e) => {
-            list_named(t, named(e), twins);
-        }
+    if let Some(origin) = named(e) {
+        list_origin(t, origin, twins);
+    }
+}
+
+// The twins that an answer names, from the front of the lent list; a list under 240 entries stays as it was.
+#[tactic(auto, using(crate::proofs::Listing::list_none), unfolding(crate::specs::Shown::name_of, crate::specs::Shown::twins_of))]
+pub fn list_twins<T: Copy>(t: &[u32], answer: Result<T, Fault>, twins: &mut [u16])
+    ensures { twins.new ≡ room_listed (twins_of (kinds_of t.now) (name_of answer)) twins.old }
+{
+    if let Err(fault) = answer {
+        list_named(t, fault.error, twins);
     }
 }

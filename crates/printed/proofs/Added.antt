@@ -4,23 +4,13 @@ use mathlib.Core.Path.{◌≡◌, refl, sym, ◌∙◌, ap}
 use mathlib.Core.List.{List, [], ◌∷◌, ◌++◌, append-nil, append_assoc}
 use native.Mathlib.Omega.{arith}
 use native.Mathlib.Numerals.{add-one}
-use borrow.Author.Tests.{lt-ltb, le-ltb}
-use lib.ListN.{length, get_or, set, replicate, take, length-append}
+use borrow.Author.Tests.{lt-ltb}
+use lib.ListN.{length, get_or, replicate, take, length-append}
 use lib.Seq.{take-suc, take_all}
 use Rattle.laws.specs.Ranges.{overlay}
 use Rattle.laws.proofs.Overlay.{overlay_next}
 use Rattle.printed.specs.Shown.{written, with_byte, added}
 use Rattle.printed.specs.declared.text.Line.{Line}
-
--- ---- one byte
-module _ (l : Line) (x : ℕ) where
-  pub byte_put : l.length < 64 → record { bytes = set l.bytes l.length x; length = l.length + 1 } ≡ with_byte l x
-  unfolding with_byte
-  byte_put h = rw (lt-ltb l.length 64 h)
-
-  pub no_room : 64 ≤ l.length → l ≡ with_byte l x
-  unfolding with_byte
-  no_room h = rw (le-ltb l.length 64 h)
 
 -- ---- byte by byte: the first i bytes of s are added
 added_more : (l : Line) (a b : List ℕ) → added (added l a) b ≡ added l (a ++ b)

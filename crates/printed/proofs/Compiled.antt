@@ -4,6 +4,8 @@ use mathlib.Core.Path.{◌≡◌, refl, sym, ◌∙◌, ap}
 use mathlib.Core.Bool.{true, false, true≢false}
 use mathlib.Core.List.{List}
 use lib.ListN.{length}
+use Rattle.std.specs.declared.result.Result.{Result}
+use Rattle.std.specs.declared.result.Result.TheVariants.{Ok, Err}
 use Rattle.laws.specs.Out.{given, refused}
 use Rattle.rules.specs.Refusal.{Fault, Placed}
 use Rattle.rules.specs.Compile.{Compiled}
@@ -13,12 +15,11 @@ use Rattle.rules.specs.Call.{formula_in}
 use Rattle.rules.specs.Report.{image_part, formula_part, checked, kindcheck}
 use Rattle.guarantees.specs.Images.{Bytes}
 use Rattle.guarantees.proofs.Lent.{table_kinds, table_rows}
-use Rattle.error.specs.declared.answer.Answer.{Answer}
-use Rattle.error.specs.declared.answer.Verdict.TheVariants.{Fine, Refused}
-use Rattle.error.specs.declared.cause.Error.{Error}
+use Rattle.error.specs.declared.fault.Fault as code
+use Rattle.error.specs.Shown.{fault_of}
 use Rattle.formula.specs.Shown.{termed}
+use Rattle.formula.specs.declared.terms.Term.{Term}
 use Rattle.compile.specs.Shown.{compiled}
-use Rattle.compile.proofs.Told.{NotRefused}
 use Rattle.printed.specs.Shown.{written, line_of}
 use Rattle.printed.specs.declared.text.Line.{Line}
 use Rattle.printed.proofs.Told.{line_termed}
@@ -36,25 +37,25 @@ module _ (s bytes : List ℕ) where
       let d : compile_image s (length old) ≡ given c = rw l e in
       rw (e, table_kinds s old b c d, table_rows s old b c d)
 
-  -- ---- what the program answers: a is the compilation's answer, v the run's
-  pub stops : {a : Answer} {x : Error} → a ≡ compiled (compile_image s table_size) → a.verdict ≡ Refused x → a ≡ termed (checked s bytes)
+  -- ---- what the program answers: the compilation's refusal, or the run's answer v
+  pub stops : {x : code.Fault} → Err x ≡ compiled (compile_image s table_size) → Err x ≡ termed (checked s bytes)
   unfolding checked compiled termed
-  stops {a} {x} e p = go (compile_image s table_size) refl
+  stops {x} e = go (compile_image s table_size) refl
     where
-      go : (m : Placed Compiled) → compile_image s table_size ≡ m → a ≡ termed (checked s bytes)
-      go (given c) q = let z : Fine ≡ Refused x = sym (ap (λ (b : Answer). b.verdict) (rw q at e)) ∙ p in let y : true ≡ false = cc in absurd (true≢false y)
-      go (refused f) q = let z : a ≡ compiled (refused f) = rw q at e in z ∙ ap termed (sym (checked_refused q))
+      go : (m : Placed Compiled) → compile_image s table_size ≡ m → Err x ≡ termed (checked s bytes)
+      go (given c) q = let p = rw q at e in let y : true ≡ false = cc in absurd (true≢false y)
+      go (refused f) q = let p = rw q at e in let z : x ≡ fault_of f = cc in ap (λ (y : code.Fault). Err y) z ∙ ap termed (sym (checked_refused q))
 
-  pub runs : (old : List ℕ) {a v : Answer} {t rows : List ℕ} → Bytes s → length old ≡ table_size → a ≡ compiled (compile_image s table_size) → NotRefused a.verdict → t ≡ table_after s old → rows ≡ own_rows t
+  pub runs : (old : List ℕ) {u : Unit {0}} {v : Result Term code.Fault} {t rows : List ℕ} → Bytes s → length old ≡ table_size → Ok u ≡ compiled (compile_image s table_size) → t ≡ table_after s old → rows ≡ own_rows t
       → v ≡ termed (formula_in (kinds_of t) (rows_of rows) bytes) → v ≡ termed (checked s bytes)
   unfolding compiled
-  runs old {a} {v} {t} {rows} b l e n h q r = go (compile_image s table_size) refl
+  runs old {u} {v} b l e h q r = go (compile_image s table_size) refl
     where
       go : (m : Placed Compiled) → compile_image s table_size ≡ m → v ≡ termed (checked s bytes)
-      go (refused f) z = absurd (n _ (ap (λ (x : Answer). x.verdict) (rw z at e)))
+      go (refused f) z = let p = rw z at e in let y : true ≡ false = cc in absurd (true≢false y)
       go (given c) z = r ∙ rw (q, h) (ap termed (sym (checked_given old c b l z)))
 
-pub prints : (input : List ℕ) {i f : List ℕ} {r : Line} {v : Answer} → i ≡ image_part input → f ≡ formula_part input → v ≡ termed (checked i f) → r ≡ written (line_of i v) → r ≡ written (kindcheck input)
+pub prints : (input : List ℕ) {i f : List ℕ} {r : Line} {v : Result Term code.Fault} → i ≡ image_part input → f ≡ formula_part input → v ≡ termed (checked i f) → r ≡ written (line_of i v) → r ≡ written (kindcheck input)
 unfolding kindcheck
 prints input {i} {f} p q e h =
-    h ∙ ap (λ (a : Answer). written (line_of i a)) e ∙ ap written (line_termed i (checked i f)) ∙ rw (p, q)
+    h ∙ ap (λ (a : Result Term code.Fault). written (line_of i a)) e ∙ ap written (line_termed i (checked i f)) ∙ rw (p, q)

@@ -3,7 +3,8 @@ use Prim.Native.Nat.{ℕ, ◌+◌, ◌≤◌}
 use mathlib.Core.Path.{◌≡◌, refl, ap}
 use mathlib.Core.Bool.{Bool, true, false, not, cond}
 use mathlib.Core.List.{List, []}
-use mathlib.Core.Option.{Option, some, none}
+use Rattle.std.specs.declared.option.Option.{Option}
+use Rattle.std.specs.declared.option.Option.TheVariants.{None, Some}
 use native.Mathlib.Omega.{arith}
 use lib.Dec.{ltb}
 use lib.ListN.{length, take, drop, length-take}
@@ -14,13 +15,10 @@ use Rattle.laws.proofs.First.{first_below}
 use Rattle.rules.specs.Layout.{filled, kind_count}
 use Rattle.rules.specs.Catalog.{kind_at}
 use Rattle.rules.specs.Image.{image_check}
-use Rattle.rules.specs.Refusal.{Fault, Placed}
+use Rattle.rules.specs.Refusal.{Placed}
 use Rattle.rules.specs.Formula as rule
 use Rattle.rules.specs.Report as report
-use Rattle.dimension.specs.declared.dimensions.Dimensions.{Dimensions}
-use Rattle.error.specs.Shown.{answer, error_of, besides}
-use Rattle.error.specs.declared.answer.Verdict.TheVariants.{Refused}
-use Rattle.error.specs.declared.cause.Said.{Said}
+use Rattle.error.specs.declared.said.Said.{Said}
 use Rattle.error.proofs.Told.{said_told}
 use Rattle.formula.specs.Shown.{termed}
 use Rattle.printed.specs.Shown.{line_of, refused_line}
@@ -31,8 +29,8 @@ unfolding report.id_part
 id_short s p = go (first (λ i. not (filled s (p + i))) 32) refl
   where
     go : (o : Option ℕ) → first (λ i. not (filled s (p + i))) 32 ≡ o → length (take (found o (λ i. i) 32) (drop p s)) ≤ 32
-    go none e = let l = length-take 32 (drop p s) in omega (arith, l)
-    go (some i) e =
+    go None e = let l = length-take 32 (drop p s) in omega (arith, l)
+    go (Some i) e =
         let l = length-take i (drop p s) in
         let h = first_below (λ i. not (filled s (p + i))) 32 e in
         omega (arith, l, h)
@@ -48,12 +46,8 @@ kind_short s k = go (image_check s) (ltb k (kind_count s))
 
 -- ---- the code's line for an answer is the rules'
 module _ (image : List ℕ) where
-  pub line_refused : (x : Fault) (d : Dimensions) → line_of image (answer (Refused (error_of x.refusal)) x.place d) ≡ report.line image (refused x)
-  unfolding line_of report.line
-  line_refused x d = ap (λ (s : Said). refused_line s.number x.place) (said_told x.refusal)
-
   pub line_termed : (m : Placed rule.Term) → line_of image (termed m) ≡ report.line image m
   unfolding line_of termed report.line
   line_termed (given rule.Number) = refl
   line_termed (given (rule.Kind k)) = refl
-  line_termed (refused x) = line_refused x (besides x.refusal)
+  line_termed (refused x) = ap (λ (s : Said). refused_line s.number x.place) (said_told x.refusal)

@@ -1,11 +1,13 @@
 -- What the code's lines show of the rules: the bytes of a line, and the line for each answer. `line_termed` says that it is the rules' own.
 use Rattle.std.specs.Prelude.{ℕ, ◌+◌, cond, List, [], ◌∷◌, ◌++◌, ltb, length, set, replicate}
+use Rattle.std.specs.declared.result.Result.{Result}
+use Rattle.std.specs.declared.result.Result.TheVariants.{Ok, Err}
 use Rattle.laws.specs.Ranges.{overlay}
 use Rattle.rules.specs.Report.{kind_part, digits}
 use Rattle.error.specs.Shown.{said_of}
-use Rattle.error.specs.declared.answer.Answer.{Answer}
-use Rattle.error.specs.declared.answer.Verdict.{Verdict}
-use Rattle.error.specs.declared.answer.Verdict.TheVariants.{Fine, Number, Kind, Refused}
+use Rattle.error.specs.declared.fault.Fault.{Fault}
+use Rattle.formula.specs.declared.terms.Term.{Term}
+use Rattle.formula.specs.declared.terms.Term.TheVariants.{Number, Kind}
 use Rattle.printed.specs.declared.text.Line.{Line}
 
 -- a line of these bytes, with zeros after them
@@ -31,11 +33,7 @@ kind_line image k = (107 ∷ 105 ∷ 110 ∷ 100 ∷ 32 ∷ []) ++ digits k ++ (
 abbrev pub refused_line : ℕ → ℕ → List ℕ
 refused_line number place = (114 ∷ 101 ∷ 102 ∷ 117 ∷ 115 ∷ 101 ∷ 100 ∷ 32 ∷ []) ++ digits number ++ (32 ∷ []) ++ digits place ++ (10 ∷ [])
 
-abbrev line_by : List ℕ → Verdict → ℕ → List ℕ
-line_by image Number place = number_line
-line_by image (Kind k) place = kind_line image k
-line_by image (Refused e) place = refused_line (said_of e).number place
-line_by image Fine place = []
-
-unfoldable pub line_of : List ℕ → Answer → List ℕ
-line_of image a = line_by image a.verdict a.place
+unfoldable pub line_of : List ℕ → Result Term Fault → List ℕ
+line_of image (Ok Number) = number_line
+line_of image (Ok (Kind k)) = kind_line image k
+line_of image (Err x) = refused_line (said_of x.error).number x.place

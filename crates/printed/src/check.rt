@@ -8,23 +8,21 @@ use crate::input::{formula_part, image_part};
 use crate::lines::line;
 use crate::text::Line;
 use compile::compile;
-use error::{Answer, Verdict};
-use formula::run;
+use error::Fault;
+use formula::{Term, run};
 use table::own_rows;
 
 // The formula's answer over the image, which is compiled into a table of the program's own.
-fn checked(image: &[u8], bytes: &[u8]) -> Answer
+#[tactic(auto, using(crate::proofs::Compiled::stops))]
+fn checked(image: &[u8], bytes: &[u8]) -> Result<Term, Fault>
     ensures { result ≡ termed (rule.checked image.now bytes.now) }
 {
     let mut table = [0u32; 9296];
-    let compiled = compile(image, &mut table);
-    let verdict = compiled.verdict;
-    if let Verdict::Refused(e) = verdict {
-        return compiled;
-    }
+    compile(image, &mut table)?;
     run(&table, own_rows(&table), bytes)
 }
 
+#[tactic(auto, using(crate::proofs::Compiled::prints))]
 pub fn kindcheck(input: &[u8]) -> Line
     ensures { result ≡ written (rule.kindcheck input.now) }
 {

@@ -3,9 +3,10 @@ ghost use Rattle.std.specs.Prelude.{◌≡◌};
 ghost use Rattle.rules.specs.Report as rule;
 
 use catalog::{kind_count, row_count};
-use report::part;
+use slices::part;
 
 // Of 121 blocks at most.
+#[tactic(auto, using(crate::proofs::Parted::lengths))]
 fn image_length(input: &[u8]) -> usize
     ensures { result ≡ rule.image_length input.now }
 {

@@ -3,46 +3,49 @@ ghost use Rattle.std.specs.Prelude.{◌≡◌};
 ghost use Rattle.error.specs.Shown.{said_of};
 ghost use Rattle.printed.specs.Shown.{written, number_line, kind_line, refused_line, line_of};
 
-use crate::text::{Line, add, add_number, empty, put};
-use error::{Answer, Error, Verdict, say};
+use crate::text::Line;
+use error::{Fault, say};
+use formula::Term;
 use report::kind_part;
 
 fn number_line() -> Line
     ensures { result ≡ written number_line }
 {
-    add(empty(), b"number\n")
+    Line::empty().add(b"number\n")
 }
 
 // The kind's index and id.
 fn kind_line(image: &[u8], k: u16) -> Line
     ensures { result ≡ written (kind_line image.now k) }
 {
-    let word = add(empty(), b"kind ");
-    let space = put(add_number(word, k as usize), 32);
-    put(add(space, kind_part(image, k)), 10)
+    Line::empty()
+        .add(b"kind ")
+        .add_number(k as usize)
+        .put(b' ')
+        .add(kind_part(image, k))
+        .put(b'\n')
 }
 
 // The refusal's number and place.
-fn refused_line(e: Error, place: usize) -> Line
-    ensures { result ≡ written (refused_line (said_of e).number place) }
+fn refused_line(fault: Fault) -> Line
+    ensures { result ≡ written (refused_line (said_of fault.error).number fault.place) }
 {
-    let said = say(e);
-    let number = said.number as usize;
-    let word = add(empty(), b"refused ");
-    let space = put(add_number(word, number), 32);
-    put(add_number(space, place), 10)
+    let number = say(fault.error).number as usize;
+    Line::empty()
+        .add(b"refused ")
+        .add_number(number)
+        .put(b' ')
+        .add_number(fault.place)
+        .put(b'\n')
 }
 
-// That a check passed is told of no formula, and no line is printed for it.
-pub fn line(image: &[u8], answer: Answer) -> Line
+#[tactic(auto, unfolding(crate::specs::Shown::line_of))]
+pub fn line(image: &[u8], answer: Result<Term, Fault>) -> Line
     ensures { result ≡ written (line_of image.now answer) }
 {
-    let verdict = answer.verdict;
-    let place = answer.place;
-    match verdict {
-        Verdict::Number => number_line(),
-        Verdict::Kind(k) => kind_line(image, k),
-        Verdict::Refused(e) => refused_line(e, place),
-        Verdict::Fine => empty(),
+    match answer {
+        Ok(Term::Number) => number_line(),
+        Ok(Term::Kind(k)) => kind_line(image, k),
+        Err(fault) => refused_line(fault),
     }
 }

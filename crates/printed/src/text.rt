@@ -10,52 +10,60 @@ pub struct Line {
     pub length: usize,
 }
 
-pub(crate) fn empty() -> Line
-    ensures { result ≡ written [] }
-{
-    Line {
-        bytes: [0; 64],
-        length: 0,
+// No `Display` stands for these: an id is any bytes, not text, and `write!` may fail.
+impl Line {
+    pub(crate) fn empty() -> Line
+        ensures { result ≡ written [] }
+    {
+        Line {
+            bytes: [0; 64],
+            length: 0,
+        }
     }
-}
 
-// What does not fit is left off; no line has more than 64 bytes.
-pub(crate) fn put(mut line: Line, x: u8) -> Line
-    ensures { result ≡ with_byte line x }
-{
-    if 64 <= line.length {
-        return line;
+    // What does not fit is left off; no line has more than 64 bytes.
+    #[tactic(auto, unfolding(crate::specs::Shown::with_byte))]
+    fn push(&mut self, x: u8)
+        ensures { self.new ≡ with_byte self.old x }
+    {
+        if self.length < 64 {
+            self.bytes[self.length] = x;
+            self.length += 1;
+        }
     }
-    line.bytes[line.length] = x;
-    line.length += 1;
-    line
-}
 
-pub(crate) fn add(mut line: Line, s: &[u8]) -> Line
-    ensures { result ≡ added line s.now }
-{
-    let n = s.len();
-    let mut i: usize = 0;
-    while i < n {
-        line = put(line, s[i]);
-        i += 1;
+    pub(crate) fn put(mut self, x: u8) -> Line
+        ensures { result ≡ with_byte self x }
+    {
+        self.push(x);
+        self
     }
-    line
-}
 
-// The decimal digits of n, found from the last to the first: 20 are enough for any n.
-pub(crate) fn add_number(line: Line, n: usize) -> Line
-    ensures { result ≡ added line (digits n) }
-{
-    let mut text = [0u8; 20];
-    let mut i: usize = 20;
-    let mut rest = n;
-    while 10 <= rest {
+    #[tactic(auto, using(crate::proofs::Added::adds))]
+    pub(crate) fn add(mut self, s: &[u8]) -> Line
+        ensures { result ≡ added self s.now }
+    {
+        for x in s {
+            self.push(*x);
+        }
+        self
+    }
+
+    // The decimal digits of n, found from the last to the first: 20 are enough for any n.
+    pub(crate) fn add_number(self, n: usize) -> Line
+        ensures { result ≡ added self (digits n) }
+    {
+        let mut text = [0u8; 20];
+        let mut i: usize = 20;
+        let mut rest = n;
+        // No `for`: the digits tell only at the end how many they are.
+        while 10 <= rest {
+            i -= 1;
+            text[i] = 48 + (rest % 10) as u8;
+            rest = rest / 10;
+        }
         i -= 1;
-        text[i] = 48 + (rest % 10) as u8;
-        rest = rest / 10;
+        text[i] = 48 + rest as u8;
+        self.add(&text[i..20])
     }
-    i -= 1;
-    text[i] = 48 + rest as u8;
-    add(line, &text[i..20])
 }

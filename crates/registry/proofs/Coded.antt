@@ -1,27 +1,43 @@
--- Two kinds by the code of a token. Assumes nothing.
-use Prim.Native.Nat.{ℕ, zero, suc}
-use mathlib.Core.Path.{◌≡◌, refl}
-use mathlib.Core.Option.{none}
+-- Two kinds by the code of a token: o is the operation of the code, if there is one (`codes`). Assumes nothing.
+use Prim.Native.Nat.{ℕ}
+use mathlib.Core.Path.{◌≡◌, refl, sym, ◌∙◌, ap}
+use Rattle.std.specs.declared.option.Option.{Option}
+use Rattle.std.specs.declared.option.Option.TheVariants.{None, Some}
+use Rattle.std.specs.declared.result.Result.{Result}
+use Rattle.std.specs.declared.result.Result.TheVariants.{Err}
+use Rattle.std.specs.Option.{option_map}
 use Rattle.rules.specs.Kinds.{Kinds, Rows}
-use Rattle.rules.specs.Refusal.{told}
-use Rattle.rules.specs.Arithmetic.{op_by}
-use Rattle.error.specs.declared.answer.Answer.{Answer}
+use Rattle.rules.specs.Arithmetic as rule
+use Rattle.error.specs.Shown.{op_as, op_of}
+use Rattle.error.specs.declared.cause.Error.{Error}
 use Rattle.error.specs.declared.cause.Error.TheVariants as cause
-use Rattle.registry.specs.Shown.{looked, no, combine_by}
+use Rattle.error.specs.declared.op.Op.{Op}
+use Rattle.registry.specs.Shown.{looked, combine_by}
 
--- past 2 to 7 there is no operation
-op_none : (n : ℕ) → (n ≡ 2 → ⊥) → (n ≡ 3 → ⊥) → (n ≡ 4 → ⊥) → (n ≡ 5 → ⊥) → (n ≡ 6 → ⊥) → (n ≡ 7 → ⊥) → op_by n ≡ none
-unfolding op_by
-op_none zero a b c d e f = refl
-op_none (suc zero) a b c d e f = refl
-op_none (suc (suc zero)) a b c d e f = absurd (a refl)
-op_none (suc (suc (suc zero))) a b c d e f = absurd (b refl)
-op_none (suc (suc (suc (suc zero)))) a b c d e f = absurd (c refl)
-op_none (suc (suc (suc (suc (suc zero))))) a b c d e f = absurd (d refl)
-op_none (suc (suc (suc (suc (suc (suc zero)))))) a b c d e f = absurd (e refl)
-op_none (suc (suc (suc (suc (suc (suc (suc zero))))))) a b c d e f = absurd (f refl)
-op_none (suc (suc (suc (suc (suc (suc (suc (suc n)))))))) a b c d e f = refl
+-- an operation of the rules is the code's, read back
+op_back : (o : rule.Op) → op_of (op_as o) ≡ o
+op_back (rule.summed rule.Add) = refl
+op_back (rule.summed rule.Sub) = refl
+op_back (rule.multiplied op) = refl
 
-pub no_operation : (K : Kinds) (R : Rows) (code l r : ℕ) {v : Answer} → (code ≡ 2 → ⊥) → (code ≡ 3 → ⊥) → (code ≡ 4 → ⊥) → (code ≡ 5 → ⊥) → (code ≡ 6 → ⊥) → (code ≡ 7 → ⊥) → v ≡ no (cause.Malformed 0) → v ≡ looked (combine_by K R code l r)
-unfolding looked told combine_by
-no_operation K R code l r a b c d e f h = rw (op_none code a b c d e f) h
+module _ (K : Kinds) (R : Rows) (code l r : ℕ) {o : Option Op} (e : o ≡ option_map op_as (rule.op_by code)) {v : Result ℕ Error} where
+  pub code_read : {op : Op} → o ≡ Some op → v ≡ looked (rule.combine K R (op_of op) l r) → v ≡ looked (combine_by K R code l r)
+  unfolding combine_by
+  code_read {op} p h = go (rule.op_by code) refl
+    where
+      go : (q : Option rule.Op) → rule.op_by code ≡ q → v ≡ looked (combine_by K R code l r)
+      go None z = let y : Some op ≡ None = sym p ∙ e ∙ ap (option_map op_as) z in cc
+      go (Some a) z =
+          let y : Some op ≡ Some (op_as a) = sym p ∙ e ∙ ap (option_map op_as) z in
+          let w : op ≡ op_as a = cc in
+          rw z (h ∙ ap (λ (b : rule.Op). looked (rule.combine K R b l r)) (ap op_of w ∙ op_back a))
+
+  pub code_unread : o ≡ None → v ≡ Err (cause.Malformed 0) → v ≡ looked (combine_by K R code l r)
+  unfolding looked combine_by
+  code_unread p h = go (rule.op_by code) refl
+    where
+      go : (q : Option rule.Op) → rule.op_by code ≡ q → v ≡ looked (combine_by K R code l r)
+      go None z = rw z h
+      go (Some a) z = let y : None ≡ Some (op_as a) = sym p ∙ e ∙ ap (option_map op_as) z in cc
+
+pub ruleset codes = (code_read, code_unread)

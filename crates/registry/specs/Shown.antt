@@ -1,6 +1,7 @@
 -- What the code's answers show of the rules' answers.
 use Rattle.std.specs.Prelude.{ℕ}
-use Rattle.laws.specs.Out.{given, refused, ◌>>=◌, ◌>>◌, refuse_if, needed, known}
+use Rattle.std.specs.declared.result.Result.{Result}
+use Rattle.laws.specs.Out.{given, refused, ◌>>=◌, needed, known}
 use Rattle.dimension.specs.Dimension as D
 use Rattle.dimension.specs.declared.rational.Rational.{Rational}
 use Rattle.dimension.specs.declared.dimensions.Dimensions.{Dimensions}
@@ -10,21 +11,12 @@ use Rattle.rules.specs.Refusal as rule
 use Rattle.rules.specs.Arithmetic as arithmetic
 use Rattle.joined.specs.Shown.{dims_at}
 use Rattle.fitting.specs.Shown.{at}
-use Rattle.error.specs.Shown.{shown, answer}
+use Rattle.error.specs.Shown.{replied}
 use Rattle.error.specs.declared.cause.Error.{Error}
-use Rattle.error.specs.declared.answer.Answer.{Answer}
-use Rattle.error.specs.declared.answer.Verdict.TheVariants.{Kind, Refused}
 
--- a lookup's answer, by itself: a refusal's place is 0
-unfoldable pub looked : rule.Answer ℕ → Answer
-looked m = shown Kind (rule.at 0 m)
-
-abbrev pub kind_as : ℕ → Answer
-kind_as k = answer (Kind k) 0 D.one
-
--- a refusal that returns no dimensions
-abbrev pub no : Error → Answer
-no e = answer (Refused e) 0 D.one
+-- a lookup's answer, by itself
+unfoldable pub looked : rule.Answer ℕ → Result ℕ Error
+looked m = replied (λ k. k) m
 
 -- ---- the rules from where the code goes on
 -- a product of this grade
@@ -53,7 +45,7 @@ fitted_power K k e d = arithmetic.settle (candidates K (at d 0)) (refused (rule.
 
 -- a power of a kind that has these dimensions
 abbrev pub over_as : Kinds → ℕ → Rational → Dimensions → rule.Answer ℕ
-over_as K k e d = refuse_if (D.power d e).over (rule.PowerOverLimits k) >> raised_as K k e (D.power d e).value
+over_as K k e d = needed (D.power d e) (rule.PowerOverLimits k) >>= raised_as K k e
 
 -- two kinds by the code of a token
 unfoldable pub combine_by : Kinds → Rows → ℕ → ℕ → ℕ → rule.Answer ℕ

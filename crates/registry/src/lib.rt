@@ -2,13 +2,12 @@
 // answer for all words. Nothing lent is written: a refusal names the twins, and who has the list lists them.
 #![tactic(auto)]
 
-mod answers;
 mod codes;
 mod powers;
 mod products;
 mod sums;
 
-pub use codes::combine;
+pub use codes::{combine, combined};
 pub use powers::{inexact_power, power};
 pub use products::product;
 pub use sums::{added, agree, scaled, subtracted};

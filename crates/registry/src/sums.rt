@@ -1,106 +1,70 @@
 // Sums and differences, by the differences of the two kinds, which points alone have; and scaling.
 ghost use Rattle.std.specs.Prelude.{◌≡◌};
-ghost use Rattle.std.proofs.Math.Option.{some, none};
 ghost use Rattle.rules.specs.Arithmetic as rule;
 ghost use Rattle.rules.specs.Table.{kinds_of};
-ghost use Rattle.error.specs.declared.cause.Error.TheVariants as cause;
-ghost use Rattle.registry.specs.Shown.{looked, no};
-ghost use Rattle.derive.specs.Shown.{unlinked};
+ghost use Rattle.registry.specs.Shown.{looked};
 
-use crate::answers::{kind, refused};
-use error::{Answer, Error, Link};
+use error::Error;
 use table::{difference_of, is_point};
 
-pub(crate) fn unsupported(code: u8, l: u16, r: u16) -> Answer
-    ensures { result ≡ no (cause.UnsupportedOperation code l r) }
-{
-    refused(Error::UnsupportedOperation(code, l, r))
-}
-
 // k where the kinds agree.
-pub fn agree(expected: u16, actual: u16, k: u16) -> Answer
+#[tactic(auto, using(crate::proofs::Answered::answered))]
+pub fn agree(expected: u16, actual: u16, k: u16) -> Result<u16, Error>
     ensures { result ≡ looked (rule.agree expected actual k) }
 {
     if expected == actual {
-        return kind(k);
+        return Ok(k);
     }
-    refused(Error::KindMismatch(expected, actual))
+    Err(Error::KindMismatch(expected, actual))
 }
 
-// A point whose difference is d, and what is added to it, whose difference is dr.
-fn point_plus(d: u16, l: u16, r: u16, dr: Link) -> Answer
-    ensures { result ≡ looked (rule.sum_by rule.Add (some d) (unlinked dr) l r) }
+// What is added to a point is a difference of it, on either side; 43 for two points.
+#[tactic(auto, unfolding(rules::specs::Arithmetic::sum_by, crate::specs::Shown::looked))]
+fn plus(l: u16, r: u16, dl: Option<u16>, dr: Option<u16>) -> Result<u16, Error>
+    ensures { result ≡ looked (rule.sum_by rule.Add dl dr l r) }
 {
-    match dr {
-        Link::To(e) => unsupported(2, l, r),
-        Link::Nowhere => agree(d, r, l),
+    match (dl, dr) {
+        (Some(d), Some(e)) => Err(Error::UnsupportedOperation(2, l, r)),
+        (Some(d), None) => agree(d, r, l),
+        (None, Some(e)) => agree(e, l, r),
+        (None, None) => agree(l, r, l),
     }
 }
 
-fn plain_plus(l: u16, r: u16, dr: Link) -> Answer
-    ensures { result ≡ looked (rule.sum_by rule.Add none (unlinked dr) l r) }
+// Two points are a difference apart, and a difference taken from a point gives the point; 43 for a point that is taken from what is none.
+#[tactic(auto, unfolding(rules::specs::Arithmetic::sum_by, crate::specs::Shown::looked))]
+fn minus(l: u16, r: u16, dl: Option<u16>, dr: Option<u16>) -> Result<u16, Error>
+    ensures { result ≡ looked (rule.sum_by rule.Sub dl dr l r) }
 {
-    match dr {
-        Link::To(e) => agree(e, l, r),
-        Link::Nowhere => agree(l, r, l),
+    match (dl, dr) {
+        (Some(d), Some(e)) => agree(l, r, d),
+        (Some(d), None) => agree(d, r, l),
+        (None, Some(e)) => Err(Error::UnsupportedOperation(3, l, r)),
+        (None, None) => agree(l, r, l),
     }
 }
 
-// What is taken from a point whose difference is d.
-fn point_minus(d: u16, l: u16, r: u16, dr: Link) -> Answer
-    ensures { result ≡ looked (rule.sum_by rule.Sub (some d) (unlinked dr) l r) }
-{
-    match dr {
-        Link::To(e) => agree(l, r, d),
-        Link::Nowhere => agree(d, r, l),
-    }
-}
-
-fn plain_minus(l: u16, r: u16, dr: Link) -> Answer
-    ensures { result ≡ looked (rule.sum_by rule.Sub none (unlinked dr) l r) }
-{
-    match dr {
-        Link::To(e) => unsupported(3, l, r),
-        Link::Nowhere => agree(l, r, l),
-    }
-}
-
-fn plus(l: u16, r: u16, dl: Link, dr: Link) -> Answer
-    ensures { result ≡ looked (rule.sum_by rule.Add (unlinked dl) (unlinked dr) l r) }
-{
-    match dl {
-        Link::To(d) => point_plus(d, l, r, dr),
-        Link::Nowhere => plain_plus(l, r, dr),
-    }
-}
-
-fn minus(l: u16, r: u16, dl: Link, dr: Link) -> Answer
-    ensures { result ≡ looked (rule.sum_by rule.Sub (unlinked dl) (unlinked dr) l r) }
-{
-    match dl {
-        Link::To(d) => point_minus(d, l, r, dr),
-        Link::Nowhere => plain_minus(l, r, dr),
-    }
-}
-
-pub fn added(t: &[u32], l: u16, r: u16) -> Answer
+#[tactic(auto, unfolding(rules::specs::Arithmetic::sum))]
+pub fn added(t: &[u32], l: u16, r: u16) -> Result<u16, Error>
     ensures { result ≡ looked (rule.sum (kinds_of t.now) rule.Add l r) }
 {
     plus(l, r, difference_of(t, l), difference_of(t, r))
 }
 
-pub fn subtracted(t: &[u32], l: u16, r: u16) -> Answer
+#[tactic(auto, unfolding(rules::specs::Arithmetic::sum))]
+pub fn subtracted(t: &[u32], l: u16, r: u16) -> Result<u16, Error>
     ensures { result ≡ looked (rule.sum (kinds_of t.now) rule.Sub l r) }
 {
     minus(l, r, difference_of(t, l), difference_of(t, r))
 }
 
 // Times or over a number, or without its sign: what no point can be. The code is the token's.
-pub fn scaled(t: &[u32], code: u8, k: u16) -> Answer
+#[tactic(auto, using(crate::proofs::Answered::answered))]
+pub fn scaled(t: &[u32], code: u8, k: u16) -> Result<u16, Error>
     ensures { result ≡ looked (rule.scaled (kinds_of t.now) code k) }
 {
     if is_point(t, k) {
-        return unsupported(code, k, 65535);
+        return Err(Error::UnsupportedOperation(code, k, 65535));
     }
-    kind(k)
+    Ok(k)
 }

@@ -1,3 +1,4 @@
 -- What the proofs of this crate cite.
 mod Asked
 mod Compared
+mod Ranges

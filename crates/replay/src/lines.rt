@@ -5,28 +5,16 @@ ghost use Rattle.replay.specs.Pieces as P;
 
 use numbers::{byte_at, u16_at};
 use printed::Line;
-use stored::after;
-
-fn is_byte(s: &[u8], t: &[u8], i: usize) -> bool
-    ensures { result ≡ P.byte_as s.now t.now i }
-{
-    byte_at(s, i) == byte_at(t, i)
-}
+use slices::after;
 
 // Whether the first n bytes are the same.
 fn are_bytes(s: &[u8], t: &[u8], n: usize) -> bool
     ensures { result ≡ all (P.byte_as s.now t.now) n }
 {
-    let mut i: usize = 0;
-    while i < n {
-        if !is_byte(s, t, i) {
-            return false;
-        }
-        i += 1;
-    }
-    true
+    (0..n).all(|i| byte_at(s, i) == byte_at(t, i))
 }
 
+#[tactic(auto, unfolding(crate::specs::Pieces::line_as))]
 fn is_line(s: &[u8], line: Line) -> bool
     ensures { result ≡ P.line_as s.now line }
 {
@@ -36,6 +24,7 @@ fn is_line(s: &[u8], line: Line) -> bool
 }
 
 // Whether kindcheck prints the line that s begins with.
+#[tactic(auto, unfolding(crate::specs::Pieces::printed_so))]
 pub(crate) fn agrees(s: &[u8], input: &[u8]) -> bool
     ensures { result ≡ P.printed_so s.now input.now }
 {
@@ -43,6 +32,7 @@ pub(crate) fn agrees(s: &[u8], input: &[u8]) -> bool
 }
 
 // The bytes of the stored line.
+#[tactic(auto, unfolding(crate::specs::Pieces::line_size))]
 pub(crate) fn size(s: &[u8]) -> usize
     ensures value { result ≡ P.line_size s.now }
     ensures upper_bound { result ≤ 65537 }

@@ -8,27 +8,18 @@ mod lines;
 mod pieces;
 mod requests;
 mod sections;
-mod tally;
 
-use pieces::{COMPILATIONS, LINES};
-use requests::{FORMULAS, LOOKUPS};
+use pieces::Pieces;
+use requests::Requests;
 use std::io;
 
 fn main(rt: HostRuntime) -> io::Result<()> {
-    tally::tell(
-        &rt,
-        "lookups",
-        sections::replayed(&rt, "lookups.bin", LOOKUPS)?,
-    )?;
-    tally::tell(
-        &rt,
-        "formulas",
-        sections::replayed(&rt, "formulas.bin", FORMULAS)?,
-    )?;
-    tally::tell(
-        &rt,
-        "compilations",
-        pieces::replayed(&rt, "compile.bin", COMPILATIONS)?,
-    )?;
-    tally::tell(&rt, "lines", pieces::replayed(&rt, "lines.bin", LINES)?)
+    let tally = sections::replayed(&rt, "lookups.bin", Requests::Lookups)?;
+    println!(rt; "lookups {tally}")?;
+    let tally = sections::replayed(&rt, "formulas.bin", Requests::Formulas)?;
+    println!(rt; "formulas {tally}")?;
+    let tally = pieces::replayed(&rt, "compile.bin", Pieces::Compilations)?;
+    println!(rt; "compilations {tally}")?;
+    let tally = pieces::replayed(&rt, "lines.bin", Pieces::Lines)?;
+    println!(rt; "lines {tally}")
 }

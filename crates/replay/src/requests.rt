@@ -7,20 +7,26 @@ ghost use Rattle.formula.specs.Shown.{termed};
 ghost use Rattle.replay.specs.Requests as R;
 
 use dimension::signed32;
-use error::Answer;
+use error::Fault;
+use formula::Term;
 use lookup::Exponent;
 use numbers::{byte_at, u16_at, u32_at};
-use stored::{after, front};
+use slices::{after, part};
+use stored::{is_kind, is_number, is_refusal};
 use table::own_rows;
 
-pub(crate) const LOOKUPS: u32 = 3;
-
-pub(crate) const FORMULAS: u32 = 4;
+// What a file has requests for. The number is that of its group, in the header.
+#[derive(Clone, Copy)]
+pub(crate) enum Requests {
+    Lookups = 3,
+    Formulas = 4,
+}
 
 // What the twin list holds before each request: the index of no kind.
 const UNWRITTEN: u16 = 54321;
 
 // The exponent of a power, as it is handed over.
+#[tactic(auto, unfolding(crate::specs::Requests::exponent_in))]
 fn exponent(s: &[u8]) -> Exponent
     ensures { exponent_of result ≡ R.exponent_in s.now }
 {
@@ -30,7 +36,8 @@ fn exponent(s: &[u8]) -> Exponent
     Exponent::Exact(signed32(u32_at(s, 4)), u32_at(s, 8))
 }
 
-fn look_up(s: &[u8], table: &[u32], twins: &mut [u16]) -> Answer
+#[tactic(auto, unfolding(crate::specs::Requests::lookup_of))]
+fn look_up(s: &[u8], table: &[u32], twins: &mut [u16]) -> Result<u16, Fault>
     ensures value { result ≡ placed (R.lookup_of s.now table.now twins.old) }
     ensures twins_after { twins.new ≡ twins_after (R.lookup_of s.now table.now twins.old) twins.old }
 {
@@ -48,77 +55,81 @@ fn look_up(s: &[u8], table: &[u32], twins: &mut [u16]) -> Answer
     )
 }
 
-fn run(s: &[u8], table: &[u32], twins: &mut [u16]) -> Answer
+#[tactic(auto, unfolding(crate::specs::Requests::formula_of))]
+fn run(s: &[u8], table: &[u32], twins: &mut [u16]) -> Result<Term, Fault>
     ensures value { result ≡ termed (R.formula_of s.now table.now twins.old) }
     ensures twins_after { twins.new ≡ twins_after (R.formula_of s.now table.now twins.old) twins.old }
 {
-    let tokens = front(after(s, 4), 12 * u16_at(s, 0) as usize);
+    let tokens = part(s, 4, 12 * u16_at(s, 0) as usize);
     call::call(table, own_rows(table), twins, tokens)
 }
 
-fn answer(s: &[u8], group: u32, table: &[u32], twins: &mut [u16]) -> Answer
-    ensures value { result ≡ R.answer_of group s.now table.now twins.old }
-    ensures twins_after { twins.new ≡ R.twins_of group s.now table.now twins.old }
+// A lookup's kind is told as a formula's.
+#[tactic(auto, unfolding(crate::specs::Requests::answer_of, crate::specs::Requests::twins_of, lookup::specs::Shown::placed))]
+fn answer(s: &[u8], requests: Requests, table: &[u32], twins: &mut [u16]) -> Result<Term, Fault>
+    ensures value { result ≡ R.answer_of requests s.now table.now twins.old }
+    ensures twins_after { twins.new ≡ R.twins_of requests s.now table.now twins.old }
 {
-    if group == LOOKUPS {
-        return look_up(s, table, twins);
+    match requests {
+        Requests::Lookups => look_up(s, table, twins).map(Term::Kind),
+        Requests::Formulas => run(s, table, twins),
     }
-    run(s, table, twins)
 }
 
 // The bytes of the request that s begins with.
-fn request_size(s: &[u8], group: u32) -> usize
-    ensures value { result ≡ R.request_size group s.now }
+#[tactic(auto, unfolding(crate::specs::Requests::request_size))]
+fn request_size(s: &[u8], requests: Requests) -> usize
+    ensures value { result ≡ R.request_size requests s.now }
     ensures upper_bound { result ≤ 786424 }
 {
-    if group == LOOKUPS {
-        return 16;
+    match requests {
+        Requests::Lookups => 16,
+        Requests::Formulas => 4 + 12 * u16_at(s, 0) as usize,
     }
-    4 + 12 * u16_at(s, 0) as usize
 }
 
 // And those of the request with its answer.
-pub(crate) fn size(s: &[u8], group: u32) -> usize
-    ensures value { result ≡ R.whole_size group s.now }
+#[tactic(auto, unfolding(crate::specs::Requests::whole_size))]
+pub(crate) fn size(s: &[u8], requests: Requests) -> usize
+    ensures value { result ≡ R.whole_size requests s.now }
     ensures upper_bound { result ≤ 1179642 }
 {
-    let n = request_size(s, group);
+    let n = request_size(s, requests);
     n + stored::answer_size(after(s, n))
-}
-
-// Whether twin i is one of the first n, or not written.
-fn is_kept(twins: &[u16], n: usize, i: usize) -> bool
-    requires { i < length twins.now }
-    ensures { result ≡ R.is_kept twins.now n i }
-{
-    (i < n) | (twins[i] == UNWRITTEN)
 }
 
 // Whether no twin from n on was written.
 fn kept(twins: &[u16], n: usize) -> bool
     ensures { result ≡ R.kept twins.now n }
 {
-    let mut i: usize = 0;
-    while i < twins.len() {
-        if !is_kept(twins, n, i) {
-            return false;
-        }
-        i += 1;
-    }
-    true
+    (0..twins.len()).all(|i| (i < n) | (twins[i] == UNWRITTEN))
 }
 
-fn confirmed(s: &[u8], answer: Answer, twins: &[u16]) -> bool
+// Whether the answer that s begins with is this one, with this twin list.
+#[tactic(auto, unfolding(crate::specs::Requests::stored_as))]
+fn is_stored(s: &[u8], answer: Result<Term, Fault>, twins: &[u16]) -> bool
+    ensures { result ≡ R.stored_as s.now answer twins.now }
+{
+    match answer {
+        Ok(Term::Number) => is_number(s),
+        Ok(Term::Kind(k)) => is_kind(s, k),
+        Err(fault) => is_refusal(s, fault, twins),
+    }
+}
+
+#[tactic(auto, unfolding(crate::specs::Requests::confirmed))]
+fn confirmed(s: &[u8], answer: Result<Term, Fault>, twins: &[u16]) -> bool
     ensures { result ≡ R.confirmed s.now answer twins.now }
 {
-    stored::agrees(s, answer, twins) & kept(twins, u16_at(s, 6) as usize)
+    is_stored(s, answer, twins) & kept(twins, u16_at(s, 6) as usize)
 }
 
 // Whether the first request is answered as it is stored.
-pub(crate) fn agrees(s: &[u8], group: u32, table: &[u32]) -> bool
-    ensures { result ≡ R.agreed group s.now table.now }
+#[tactic(auto, unfolding(crate::specs::Requests::agreed))]
+pub(crate) fn agrees(s: &[u8], requests: Requests, table: &[u32]) -> bool
+    ensures { result ≡ R.agreed requests s.now table.now }
 {
     let mut twins = [UNWRITTEN; 240];
-    let answer = answer(s, group, table, &mut twins);
-    confirmed(after(s, request_size(s, group)), answer, &twins)
+    let answer = answer(s, requests, table, &mut twins);
+    confirmed(after(s, request_size(s, requests)), answer, &twins)
 }

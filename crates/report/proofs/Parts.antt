@@ -13,11 +13,10 @@ use Rattle.rules.specs.Catalog.{kind_at}
 use Rattle.rules.specs.Image.{image_check}
 use Rattle.rules.specs.Refusal.{Placed}
 use Rattle.rules.specs.Report.{id_part, kind_part}
+use Rattle.std.specs.declared.result.Result.{Result}
+use Rattle.std.specs.Result.{is_ok}
 use Rattle.error.specs.Shown.{fine}
-use Rattle.error.specs.declared.answer.Answer.{Answer}
-use Rattle.error.specs.declared.answer.Verdict.{Verdict}
-use Rattle.error.specs.declared.answer.Verdict.TheVariants.{Fine, Number, Kind, Refused}
-use Rattle.error.specs.declared.cause.Error.{Error}
+use Rattle.error.specs.declared.fault.Fault.{Fault}
 use Rattle.report.specs.Shown.{is_readable, padded, id_length}
 
 pub padding_told : (s : List ℕ) (p i : ℕ) {v : ℕ} → v ≡ byte s (p + i) → eqb v 0 ≡ padded s p i
@@ -28,34 +27,14 @@ padding_told s p i e = rw e (twice (eqb (byte s (p + i)) 0))
     twice true = refl
     twice false = refl
 
--- a check of the image tells a fine verdict or a refusal, and nothing else
-module _ (s : List ℕ) {a : Answer} (h : a ≡ fine (image_check s)) where
-  pub read_fine : a.verdict ≡ Fine → true ≡ is_readable s
-  unfolding is_readable fine
-  read_fine e = go (image_check s) h
-    where
-      go : (m : Placed (Unit {0})) → a ≡ fine m → true ≡ elim m [ given u ↦ true | refused x ↦ false ]
-      go (given u) q = refl
-      go (refused x) q = let z : Refused _ ≡ Fine = sym (ap (λ (b : Answer). b.verdict) q) ∙ e in cc
-
-  refuses : (v : Verdict) → a.verdict ≡ v → (v ≡ Fine → false ≡ true) → false ≡ is_readable s
-  unfolding is_readable fine
-  refuses v e n = go (image_check s) h
-    where
-      go : (m : Placed (Unit {0})) → a ≡ fine m → false ≡ elim m [ given u ↦ true | refused x ↦ false ]
-      go (given u) q = n (sym e ∙ ap (λ (b : Answer). b.verdict) q)
-      go (refused x) q = refl
-
-  pub read_number : a.verdict ≡ Number → false ≡ is_readable s
-  read_number e = refuses Number e (λ z. cc)
-
-  pub read_kind : {k : ℕ} → a.verdict ≡ Kind k → false ≡ is_readable s
-  read_kind {k} e = refuses (Kind k) e (λ z. cc)
-
-  pub read_refused : {x : Error} → a.verdict ≡ Refused x → false ≡ is_readable s
-  read_refused {x} e = refuses (Refused x) e (λ z. cc)
-
-pub ruleset readable = (read_fine, read_number, read_kind, read_refused)
+-- whether a check of the image passed
+pub readable : (s : List ℕ) {a : Result (Unit {0}) Fault} {b : Bool} → a ≡ fine (image_check s) → b ≡ is_ok a → b ≡ is_readable s
+unfolding is_readable fine
+readable s h e = go (image_check s) (e ∙ ap is_ok h)
+  where
+    go : (m : Placed (Unit {0})) {b : Bool} → b ≡ is_ok (fine m) → b ≡ elim m [ given u ↦ true | refused x ↦ false ]
+    go (given u) q = q
+    go (refused x) q = q
 
 pub id_told : (s : List ℕ) (p : ℕ) {n : ℕ} {r : List ℕ} → n ≡ id_length s p → r ≡ take n (drop p s) → r ≡ id_part s p
 unfolding id_part id_length padded

@@ -1,46 +1,27 @@
-// The report: a kind's id, or the caller's own word for a number, as a part of what was lent. Nothing is copied, and `part` alone takes a part.
+// The report: a kind's id, or the caller's own word for a number, as a part of what was lent. Nothing is copied.
 #![tactic(auto)]
 
-ghost use Rattle.std.specs.Prelude.{◌≡◌, ◌<◌, take, drop};
+ghost use Rattle.std.specs.Prelude.{◌≡◌, ◌<◌};
 ghost use Rattle.rules.specs.Report as rule;
 ghost use Rattle.formula.specs.Shown.{term_of};
 ghost use Rattle.report.specs.Shown.{is_readable, padded, id_length};
 
 use catalog::{kind_count, kind_place};
-use error::Verdict;
 use formula::Term;
 use image::check_image;
 use numbers::byte_at;
-
-// The bytes from `at` on, `len` of them or as many as there are.
-pub fn part(s: &[u8], at: usize, len: usize) -> &[u8]
-    ensures { result.now ≡ take len (drop at s.now) }
-{
-    let n = s.len();
-    if n <= at {
-        return &s[0..0];
-    }
-    if n - at <= len {
-        return &s[at..n];
-    }
-    &s[at..at + len]
-}
+use slices::part;
 
 // Whether the image meets none of 1 to 4.
+#[tactic(auto, using(crate::proofs::Parts::readable))]
 fn is_readable(image: &[u8]) -> bool
     ensures { result ≡ is_readable image.now }
 {
-    let answer = check_image(image);
-    let verdict = answer.verdict;
-    match verdict {
-        Verdict::Fine => true,
-        Verdict::Number => false,
-        Verdict::Kind(k) => false,
-        Verdict::Refused(e) => false,
-    }
+    check_image(image).is_ok()
 }
 
 // Whether byte i of the id at p is padding.
+#[tactic(auto, using(crate::proofs::Parts::padding_told))]
 fn is_padding(image: &[u8], p: u32, i: usize) -> bool
     requires { i < 32 }
     ensures { result ≡ padded image.now p i }
@@ -49,20 +30,20 @@ fn is_padding(image: &[u8], p: u32, i: usize) -> bool
 }
 
 // How many bytes of the id at p come before its padding.
+#[tactic(auto, using(laws::proofs::First::scan), unfolding(crate::specs::Shown::id_length))]
 fn id_length(image: &[u8], p: u32) -> usize
     ensures { result ≡ id_length image.now p }
 {
-    let mut i: usize = 0;
-    while i < 32 {
+    for i in 0..32 {
         if is_padding(image, p, i) {
             return i;
         }
-        i += 1;
     }
     32
 }
 
 // The id at p, its padding left off.
+#[tactic(auto, using(crate::proofs::Parts::id_told))]
 fn id_part(image: &[u8], p: u32) -> &[u8]
     ensures { result.now ≡ rule.id_part image.now p }
 {
@@ -70,6 +51,7 @@ fn id_part(image: &[u8], p: u32) -> &[u8]
 }
 
 // The id of kind k, its padding left off; empty where the image meets 1 to 4 or k is past the end.
+#[tactic(auto, using(crate::proofs::Parts::kind_parts))]
 pub fn kind_part(image: &[u8], k: u16) -> &[u8]
     ensures { result.now ≡ rule.kind_part image.now k }
 {
@@ -82,6 +64,7 @@ pub fn kind_part(image: &[u8], k: u16) -> &[u8]
     part(image, 0, 0)
 }
 
+#[tactic(auto, unfolding(rules::specs::Report::report))]
 pub fn report<'a>(image: &'a [u8], word: &'a [u8], term: Term) -> &'a [u8]
     ensures { result.now ≡ rule.report image.now word.now (term_of term) }
 {

@@ -4,7 +4,8 @@ use mathlib.Core.Path.{◌≡◌, refl, sym, ◌∙◌, ap}
 use mathlib.Core.Bool.{Bool, false}
 use mathlib.Core.List.{List}
 use mathlib.Core.Logic.{⊎_elim}
-use mathlib.Core.Option.{Option, some, none}
+use Rattle.std.specs.declared.option.Option.{Option}
+use Rattle.std.specs.declared.option.Option.TheVariants.{None, Some}
 use native.Mathlib.Nat.{le_of_suc-le-suc, eq-or-lt_of_le}
 use native.Mathlib.Omega.{arith}
 use lib.ListN.{length, get_or, take, length-take}
@@ -43,8 +44,8 @@ first_more test m (suc n) h f =
     (eq-or-lt_of_le h)
   where
     go : (o : Option ℕ) → first test n ≡ o → first test n ≡ first test m → test n ≡ false → first test (suc n) ≡ first test m
-    go (some i) p q e = rw (first, p) (sym p ∙ q)
-    go none p q e = rw (first, p, e) (sym p ∙ q)
+    go (Some i) p q e = rw (first, p) (sym p ∙ q)
+    go None p q e = rw (first, p, e) (sym p ∙ q)
 
 -- ---- the records are for what the words are for, up to 400 rows
 module _ (s : List ℕ) where
@@ -102,9 +103,9 @@ module _ (s : List ℕ) where
 
     pub listed : rows_of (flat (records s)) l op r ≡ rows_of cut l op r
     unfolding rows_of
-    listed = ap (λ (n : ℕ). found (first (is_row (flat (records s)) l op r) n) (λ i. index_or (word (flat (records s)) (4 * i + 3))) none) all_of
-        ∙ ap (λ (o : Option ℕ). found o (λ i. index_or (word (flat (records s)) (4 * i + 3))) none) firsts ∙ named (first (is_row cut l op r) (length cut / 4)) refl
+    listed = ap (λ (n : ℕ). found (first (is_row (flat (records s)) l op r) n) (λ i. index_or (word (flat (records s)) (4 * i + 3))) None) all_of
+        ∙ ap (λ (o : Option ℕ). found o (λ i. index_or (word (flat (records s)) (4 * i + 3))) None) firsts ∙ named (first (is_row cut l op r) (length cut / 4)) refl
       where
-        named : (o : Option ℕ) → first (is_row cut l op r) (length cut / 4) ≡ o → found o (λ i. index_or (word (flat (records s)) (4 * i + 3))) none ≡ found o (λ i. index_or (word cut (4 * i + 3))) none
-        named none p = refl
-        named (some i) p = ap index_or (same_result i (first_below (is_row cut l op r) (length cut / 4) p))
+        named : (o : Option ℕ) → first (is_row cut l op r) (length cut / 4) ≡ o → found o (λ i. index_or (word (flat (records s)) (4 * i + 3))) None ≡ found o (λ i. index_or (word cut (4 * i + 3))) None
+        named None p = refl
+        named (Some i) p = ap index_or (same_result i (first_below (is_row cut l op r) (length cut / 4) p))

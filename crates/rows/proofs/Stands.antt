@@ -1,13 +1,14 @@
 -- One row stands for a list of rows in a lookup: the one for the pair, where all are in range. Assumes nothing.
 use Prim.Native.Nat.{ℕ, zero, suc, ◌+◌, ◌*◌, ◌/◌, ◌%◌}
-use mathlib.Core.Path.{◌≡◌, refl, sym, ◌∙◌, ap, subst}
-use mathlib.Core.Bool.{Bool, true, false, not, ◌&&◌, and-false}
+use mathlib.Core.Path.{◌≡◌, refl, sym, ◌∙◌, ap}
+use mathlib.Core.Bool.{Bool, true, false, ◌&&◌, and-false}
 use mathlib.Core.List.{List, [], ◌∷◌}
-use mathlib.Core.Option.{Option, some, none}
+use Rattle.std.specs.declared.option.Option.{Option}
+use Rattle.std.specs.declared.option.Option.TheVariants.{None, Some}
 use native.Mathlib.Omega.{arith}
 use lib.Dec.{eqb, ltb}
 use lib.ListN.{length}
-use borrow.Author.Tests.{eqb-true, eq-eqb, not-true, not-false}
+use borrow.Author.Tests.{eqb-true, eq-eqb}
 use Rattle.laws.specs.Out.{given, refused, needed, known, ◌>>=◌, ◌>>◌}
 use Rattle.laws.specs.Ranges.{first, all}
 use Rattle.laws.proofs.First.{first_below, first_passes}
@@ -21,33 +22,10 @@ use Rattle.rules.specs.Refusal.{Placed, absent, twins_after}
 use Rattle.rules.specs.Arithmetic as rule
 use Rattle.rules.specs.Table.{word, is_row, rows_of, index_or, row_fine, are_rows, is_table, kinds_of, row_words}
 use Rattle.rules.specs.Lookup as lone
-use Rattle.error.specs.Shown.{linked}
-use Rattle.error.specs.declared.answer.Answer.{Answer}
-use Rattle.error.specs.declared.answer.Link.{Link}
-use Rattle.error.specs.declared.answer.Link.TheVariants.{To, Nowhere}
-use Rattle.derive.specs.Shown.{unlinked}
+use Rattle.std.specs.declared.result.Result.{Result}
+use Rattle.error.specs.declared.fault.Fault.{Fault}
 use Rattle.lookup.specs.Shown.{op_by, placed}
 use Rattle.rows.specs.Standing.{standing}
-
--- ---- what a lookup over the rows s hands back
-abbrev pub Told : List ℕ → List ℕ → List ℕ → ℕ → ℕ → ℕ → Answer → List ℕ → Type 0
-Told t s tw code l r v w = (v ≡ placed (lone.combine t s tw code l r)) × (w ≡ twins_after (lone.combine t s tw code l r) tw)
-
-told_by : (t tw : List ℕ) (code l r : ℕ) {v : Answer} {w : List ℕ} {s s' : List ℕ} → s ≡ s' → Told t s tw code l r v w → Told t s' tw code l r v w
-told_by t tw code l r {v} {w} p e = subst (λ (z : List ℕ). Told t z tw code l r v w) p e
-
-module _ (t tw : List ℕ) (code l r : ℕ) (fine : Bool) (named : Link) {v : Answer} {w : List ℕ} where
-  pub wrong_stands : not fine ≡ true → Told t (0 ∷ []) tw code l r v w → Told t (standing fine (unlinked named) code l r) tw code l r v w
-  unfolding standing
-  wrong_stands p e = told_by t tw code l r (rw (not-true fine p)) e
-
-  pub row_stands : (k : ℕ) → not fine ≡ false → named ≡ To k → Told t (row_words l (op_by code) r k) tw code l r v w → Told t (standing fine (unlinked named) code l r) tw code l r v w
-  unfolding standing
-  row_stands k p q e = told_by t tw code l r (rw (not-false fine p, q)) e
-
-  pub none_stands : not fine ≡ false → named ≡ Nowhere → Told t [] tw code l r v w → Told t (standing fine (unlinked named) code l r) tw code l r v w
-  unfolding standing
-  none_stands p q e = told_by t tw code l r (rw (not-false fine p, q)) e
 
 -- ---- a lookup reads of its rows whether they are in range, and what they name for the pair
 module _ (K : Kinds) (l r : ℕ) where
@@ -88,12 +66,12 @@ module _ (t tw s s' : List ℕ) (code l r : ℕ) (p : are_rows t s ≡ are_rows 
   answered_both e = rw (p, same_answer (kinds_of t) l r (rows_of s) (rows_of s') code e)
 
 -- ---- where rows are in range and the first for a pair names k, that row is in range, and names k
-index_told : (w k : ℕ) → index_or w ≡ some k → (w ≡ k) × (ltb w absent ≡ true)
+index_told : (w k : ℕ) → index_or w ≡ Some k → (w ≡ k) × (ltb w absent ≡ true)
 index_told w k e = go (ltb w absent) refl
   where
     go : (b : Bool) → ltb w absent ≡ b → (w ≡ k) × (ltb w absent ≡ true)
-    go true p = let z : some w ≡ some k = rw p at e in (cc, p)
-    go false p = let z : none ≡ some k = rw p at e in let y : ◌≡◌ {A = ℕ} 0 1 = cc in absurd (omega arith)
+    go true p = let z : Some w ≡ Some k = rw p at e in (cc, p)
+    go false p = let z : None ≡ Some k = rw p at e in let y : ◌≡◌ {A = ℕ} 0 1 = cc in absurd (omega arith)
 
 module _ (t s : List ℕ) (l : ℕ) (op : ProductOp) (r k : ℕ) where
   -- what is known of row i
@@ -105,7 +83,7 @@ module _ (t s : List ℕ) (l : ℕ) (op : ProductOp) (r k : ℕ) where
     below : ltb k absent ≡ true
     fine : row_fine t s (4 * i) ≡ true
 
-  row_is : (i : ℕ) → is_row s l op r i ≡ true → index_or (word s (4 * i + 3)) ≡ some k → row_fine t s (4 * i) ≡ true → Row_is i
+  row_is : (i : ℕ) → is_row s l op r i ≡ true → index_or (word s (4 * i + 3)) ≡ Some k → row_fine t s (4 * i) ≡ true → Row_is i
   unfolding is_row
   row_is i a b c =
       let d = and_left (eqb (word s (4 * i)) l && eqb (word s (4 * i + 1)) (op_word op)) (eqb (word s (4 * i + 2)) r) a in
@@ -119,14 +97,14 @@ module _ (t s : List ℕ) (l : ℕ) (op : ProductOp) (r k : ℕ) where
         fine = c;
       }
 
-  find_row : are_rows t s ≡ true → rows_of s l op r ≡ some k → (i : ℕ) × Row_is i
+  find_row : are_rows t s ≡ true → rows_of s l op r ≡ Some k → (i : ℕ) × Row_is i
   unfolding are_rows rows_of
   find_row h e = go (first (is_row s l op r) (length s / 4)) refl
     where
       go : (f : Option ℕ) → first (is_row s l op r) (length s / 4) ≡ f → (i : ℕ) × Row_is i
-      go none p = let z : none ≡ some k = rw p at e in let y : ◌≡◌ {A = ℕ} 0 1 = cc in absurd (omega arith)
-      go (some i) p =
-          let z : index_or (word s (4 * i + 3)) ≡ some k = rw p at e in (
+      go None p = let z : None ≡ Some k = rw p at e in let y : ◌≡◌ {A = ℕ} 0 1 = cc in absurd (omega arith)
+      go (Some i) p =
+          let z : index_or (word s (4 * i + 3)) ≡ Some k = rw p at e in (
             i,
             row_is i (first_passes (is_row s l op r) (length s / 4) p) z
                 (all_at (λ j. row_fine t s (4 * j)) (length s / 4) i (and_right (eqb (length s % 4) 0) (all (λ j. row_fine t s (4 * j)) (length s / 4)) h) (first_below (is_row s l op r) (length s / 4) p)),
@@ -136,7 +114,7 @@ module _ (t s : List ℕ) (l : ℕ) (op : ProductOp) (r k : ℕ) where
   unfolding are_rows row_fine all
   row_fine_law i x = rw (← x.left, ← x.op_is, ← x.right, ← x.result) x.fine
 
-  row_names : ltb k absent ≡ true → rows_of (row_words l op r k) l op r ≡ some k
+  row_names : ltb k absent ≡ true → rows_of (row_words l op r k) l op r ≡ Some k
   unfolding rows_of is_row first
   row_names h = rw (eq-eqb l l refl, eq-eqb (op_word op) (op_word op) refl, eq-eqb r r refl, h)
 
@@ -149,7 +127,7 @@ no_rows : (t : List ℕ) → are_rows t [] ≡ true
 unfolding are_rows all
 no_rows t = refl
 
-none_named : (l : ℕ) (op : ProductOp) (r : ℕ) → rows_of [] l op r ≡ none
+none_named : (l : ℕ) (op : ProductOp) (r : ℕ) → rows_of [] l op r ≡ None
 unfolding rows_of first
 none_named l op r = refl
 
@@ -160,19 +138,20 @@ stands t tw s code l r = go (are_rows t s) refl (rows_of s l (op_by code) r) ref
   where
     go : (b : Bool) → are_rows t s ≡ b → (o : Option ℕ) → rows_of s l (op_by code) r ≡ o → lone.combine t (standing b o code l r) tw code l r ≡ lone.combine t s tw code l r
     go false p o q = refused_both t tw (0 ∷ []) s code l r (lone_wrong t ∙ sym p) p
-    go true p none q = answered_both t tw [] s code l r (no_rows t ∙ sym p) (none_named l (op_by code) r ∙ sym q)
-    go true p (some k) q =
+    go true p None q = answered_both t tw [] s code l r (no_rows t ∙ sym p) (none_named l (op_by code) r ∙ sym q)
+    go true p (Some k) q =
         let x = find_row t s l (op_by code) r k p q in
         answered_both t tw (row_words l (op_by code) r k) s code l r (row_fine_law t s l (op_by code) r k x.0 x.1 ∙ sym p) (row_names t s l (op_by code) r k x.1.below ∙ sym q)
 
-unlinked_linked : (o : Option ℕ) → unlinked (linked o) ≡ o
-unlinked_linked (some k) = refl
-unlinked_linked none = refl
-
 -- what the code asked of the rows in turn: whether they are in range, and what they name for the pair
-pub stood : (t tw s : List ℕ) (code l r : ℕ) {v : Answer} {w : List ℕ} {op : ProductOp} {k : Link} → op ≡ op_by code → k ≡ linked (rows_of s l op r)
-    → Told t (standing (are_rows t s) (unlinked k) code l r) tw code l r v w → Told t s tw code l r v w
-stood t tw s code l r {v} {w} {op} {k} p q e =
-    let o : unlinked k ≡ rows_of s l (op_by code) r = ap unlinked q ∙ unlinked_linked (rows_of s l op r) ∙ ap (λ (z : ProductOp). rows_of s l z r) p in
-    let z : lone.combine t (standing (are_rows t s) (unlinked k) code l r) tw code l r ≡ lone.combine t s tw code l r = ap (λ (y : Option ℕ). lone.combine t (standing (are_rows t s) y code l r) tw code l r) o ∙ stands t tw s code l r in
-    (e.0 ∙ ap placed z, e.1 ∙ ap (λ (y : Placed ℕ). twins_after y tw) z)
+module _ (t tw s : List ℕ) (code l r : ℕ) {b : Bool} {op : ProductOp} {o : Option ℕ} (f : b ≡ are_rows t s) (p : op ≡ op_by code) (q : o ≡ rows_of s l op r) where
+  same : lone.combine t (standing b o code l r) tw code l r ≡ lone.combine t s tw code l r
+  same = rw (f, q, p) (stands t tw s code l r)
+
+  pub stood_value : {v : Result ℕ Fault} → v ≡ placed (lone.combine t (standing b o code l r) tw code l r) → v ≡ placed (lone.combine t s tw code l r)
+  stood_value e = e ∙ ap placed same
+
+  pub stood_list : {w : List ℕ} → w ≡ twins_after (lone.combine t (standing b o code l r) tw code l r) tw → w ≡ twins_after (lone.combine t s tw code l r) tw
+  stood_list e = e ∙ ap (λ (y : Placed ℕ). twins_after y tw) same
+
+pub ruleset stood = (stood_value, stood_list)

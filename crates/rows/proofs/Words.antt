@@ -3,7 +3,7 @@ use Prim.Native.Nat.{ℕ, zero, suc, ◌+◌, ◌*◌, ◌/◌, ◌%◌, ◌<◌
 use mathlib.Core.Path.{◌≡◌, refl, sym, ◌∙◌, ap}
 use mathlib.Core.Bool.{Bool, true, false}
 use mathlib.Core.List.{List, [], ◌∷◌}
-use mathlib.Core.Option.{none}
+use Rattle.std.specs.declared.option.Option.TheVariants.{None}
 use native.Mathlib.Omega.{arith}
 use lib.ListN.{length, get_or}
 use Rattle.laws.specs.Ranges.{first, all}
@@ -52,14 +52,14 @@ module _ (ys : List Row) (l : ℕ) (op : ProductOp) (r : ℕ) (i : ℕ) where
   unfolding is_row flat
   row_is = rw (left_word ys i, op_word_law ys i, right_word ys i)
 
-  pub row_next : first (is_row (flat ys) l op r) i ≡ none → is_row (flat (get_or ys i blank ∷ [])) l op r 0 ≡ false → first (is_row (flat ys) l op r) (i + 1) ≡ none
+  pub row_next : first (is_row (flat ys) l op r) i ≡ None → is_row (flat (get_or ys i blank ∷ [])) l op r 0 ≡ false → first (is_row (flat ys) l op r) (i + 1) ≡ None
   row_next p f = first_next (is_row (flat ys) l op r) i p row_is f
 
-  pub row_here : first (is_row (flat ys) l op r) i ≡ none → i < length ys → is_row (flat (get_or ys i blank ∷ [])) l op r 0 ≡ true → index_or (get_or ys i blank).result ≡ rows_of (flat ys) l op r
+  pub row_here : first (is_row (flat ys) l op r) i ≡ None → i < length ys → is_row (flat (get_or ys i blank ∷ [])) l op r 0 ≡ true → index_or (get_or ys i blank).result ≡ rows_of (flat ys) l op r
   unfolding rows_of
   row_here p h t = rw (rows_flat ys, first_here (is_row (flat ys) l op r) i (length ys) h p row_is t, result_word ys i)
 
-  pub row_end : first (is_row (flat ys) l op r) i ≡ none → i ≤ length ys → length ys ≤ i → none ≡ rows_of (flat ys) l op r
+  pub row_end : first (is_row (flat ys) l op r) i ≡ None → i ≤ length ys → length ys ≤ i → None ≡ rows_of (flat ys) l op r
   unfolding rows_of
   row_end p h k = rw (rows_flat ys, first_end (is_row (flat ys) l op r) i (length ys) h k p)
 

@@ -1,6 +1,6 @@
 -- Words that stand for a list of rows in one lookup.
 use Rattle.std.specs.Prelude.{ℕ, Bool, cond, List, [], ◌∷◌}
-use Rattle.std.proofs.Math.Option.{Option}
+use Rattle.std.specs.declared.option.Option.{Option}
 use Rattle.laws.specs.Options.{found}
 use Rattle.rules.specs.Table.{row_words}
 use Rattle.lookup.specs.Shown.{op_by}

@@ -1,20 +1,17 @@
 // Rows in force as a list of row records: four numbers a row, as in the words of a table.
 #![tactic(auto)]
 
-ghost use Rattle.std.specs.Prelude.{[], ◌∷◌, ◌≡◌, ◌<◌, take};
-ghost use Rattle.std.proofs.Math.Option.{none};
+ghost use Rattle.std.specs.Prelude.{[], ◌∷◌, ◌≡◌, take};
 ghost use Rattle.rules.specs.Lookup as lone;
 ghost use Rattle.rules.specs.Refusal.{twins_after};
 ghost use Rattle.rules.specs.Table as T;
-ghost use Rattle.error.specs.Shown.{linked};
-ghost use Rattle.derive.specs.Shown.{unlinked};
 ghost use Rattle.lookup.specs.Shown.{op_by, placed};
 ghost use Rattle.rows.specs.Flat.{flat};
 ghost use Rattle.rows.specs.Records.{record_at, records};
 ghost use Rattle.rows.specs.Standing.{standing};
 
 use dimension::ProductOp;
-use error::{Answer, Link};
+use error::Fault;
 use lookup::{combine, op_of};
 use table::{index_or, op_word, word};
 use valid::are_rows;
@@ -29,41 +26,27 @@ pub struct Row {
 }
 
 // Whether a row is for that very left, operation and right.
+#[tactic(auto, unfolding(rules::specs::Table::is_row, crate::specs::Flat::flat))]
 fn is_for(row: Row, l: u16, op: ProductOp, r: u16) -> bool
     ensures { result ≡ T.is_row (flat (row ∷ [])) l op r 0 }
 {
     (row.left == l as u32) & (row.op == op_word(op)) & (row.right == r as u32)
 }
 
-// The kind that a row names.
-fn named(row: Row) -> Link
-    ensures { result ≡ linked (T.index_or row.result) }
-{
-    index_or(row.result)
-}
-
-fn nowhere() -> Link
-    ensures { result ≡ linked none }
-{
-    Link::Nowhere
-}
-
 // The kind that the first row for a pair names.
-pub fn row_in(rows: &[Row], l: u16, op: ProductOp, r: u16) -> Link
-    ensures { result ≡ linked (T.rows_of (flat rows.now) l op r) }
+pub fn row_in(rows: &[Row], l: u16, op: ProductOp, r: u16) -> Option<u16>
+    ensures { result ≡ T.rows_of (flat rows.now) l op r }
 {
-    let mut i: usize = 0;
-    while i < rows.len() {
-        let row = rows[i];
-        if is_for(row, l, op, r) {
-            return named(row);
+    for row in rows {
+        if is_for(*row, l, op, r) {
+            return index_or(row.result);
         }
-        i += 1;
     }
-    nowhere()
+    None
 }
 
 // Whether one row is a row over the table's kinds.
+#[tactic(auto, unfolding(crate::specs::Flat::flat))]
 fn is_fine(t: &[u32], row: Row) -> bool
     ensures { result ≡ T.are_rows t.now (flat (row ∷ [])) }
 {
@@ -75,28 +58,23 @@ fn is_fine(t: &[u32], row: Row) -> bool
 pub fn are_rows_in(t: &[u32], rows: &[Row]) -> bool
     ensures { result ≡ T.are_rows t.now (flat rows.now) }
 {
-    let mut i: usize = 0;
-    while i < rows.len() {
-        let row = rows[i];
-        if !is_fine(t, row) {
+    for row in rows {
+        if !is_fine(t, *row) {
             return false;
         }
-        i += 1;
     }
     true
 }
 
-// A lookup over no row.
-fn with_none(table: &[u32], twins: &mut [u16], code: u8, l: u16, r: u16) -> Answer
-    ensures value { result ≡ placed (lone.combine table.now [] twins.old code l r) }
-    ensures twins_after { twins.new ≡ twins_after (lone.combine table.now [] twins.old code l r) twins.old }
-{
-    let words = [0u32; 1];
-    combine(table, &words[0..0], twins, code, l, r)
-}
-
 // A lookup over the one row that names k.
-fn with_row(table: &[u32], k: u16, twins: &mut [u16], code: u8, l: u16, r: u16) -> Answer
+fn with_row(
+    table: &[u32],
+    k: u16,
+    twins: &mut [u16],
+    code: u8,
+    l: u16,
+    r: u16,
+) -> Result<u16, Fault>
     ensures value { result ≡ placed (lone.combine table.now (T.row_words l (op_by code) r k) twins.old code l r) }
     ensures twins_after { twins.new ≡ twins_after (lone.combine table.now (T.row_words l (op_by code) r k) twins.old code l r) twins.old }
 {
@@ -105,29 +83,30 @@ fn with_row(table: &[u32], k: u16, twins: &mut [u16], code: u8, l: u16, r: u16) 
 }
 
 // A lookup over rows of which is known whether they are in range, and what the first for the pair names.
+#[tactic(auto, unfolding(crate::specs::Standing::standing))]
 pub fn combine_by(
     table: &[u32],
     fine: bool,
-    named: Link,
+    named: Option<u16>,
     twins: &mut [u16],
     code: u8,
     l: u16,
     r: u16,
-) -> Answer
-    ensures value { result ≡ placed (lone.combine table.now (standing fine (unlinked named) code l r) twins.old code l r) }
-    ensures twins_after { twins.new ≡ twins_after (lone.combine table.now (standing fine (unlinked named) code l r) twins.old code l r) twins.old }
+) -> Result<u16, Fault>
+    ensures value { result ≡ placed (lone.combine table.now (standing fine named code l r) twins.old code l r) }
+    ensures twins_after { twins.new ≡ twins_after (lone.combine table.now (standing fine named code l r) twins.old code l r) twins.old }
 {
     if !fine {
-        let words = [0u32; 1];
-        return combine(table, &words, twins, code, l, r);
+        return combine(table, &[0], twins, code, l, r);
     }
     match named {
-        Link::To(k) => with_row(table, k, twins, code, l, r),
-        Link::Nowhere => with_none(table, twins, code, l, r),
+        Some(k) => with_row(table, k, twins, code, l, r),
+        None => combine(table, &[], twins, code, l, r),
     }
 }
 
 // Two kinds combined by the code of a token, over a lent list of rows.
+#[tactic(auto, using(crate::proofs::Stands::stood))]
 pub fn combine_rows(
     table: &[u32],
     rows: &[Row],
@@ -135,19 +114,18 @@ pub fn combine_rows(
     code: u8,
     l: u16,
     r: u16,
-) -> Answer
+) -> Result<u16, Fault>
     ensures value { result ≡ placed (lone.combine table.now (flat rows.now) twins.old code l r) }
     ensures twins_after { twins.new ≡ twins_after (lone.combine table.now (flat rows.now) twins.old code l r) twins.old }
 {
     let fine = are_rows_in(table, rows);
-    let op = op_of(code);
-    let named = row_in(rows, l, op, r);
+    let named = row_in(rows, l, op_of(code), r);
     combine_by(table, fine, named, twins, code, l, r)
 }
 
 // Row i of the words; past their end, a row that is for no pair.
+#[tactic(auto, using(crate::proofs::Listed::listing))]
 fn record_at(words: &[u32], i: usize) -> Row
-    requires { i < 400 }
     ensures { result ≡ record_at words.now i }
 {
     if i < words.len() / 4 {
@@ -176,18 +154,15 @@ fn records(words: &[u32]) -> [Row; 400]
         right: 0,
         result: 0,
     }; 400];
-    let mut i: usize = 0;
-    while i < 400 {
-        let row = record_at(words, i);
-        rows[i] = row;
-        i += 1;
+    for i in 0..400 {
+        rows[i] = record_at(words, i);
     }
     rows
 }
 
 // The kind that the first row for a pair names, of the first 400 rows of the words.
-pub fn row_among(words: &[u32], l: u16, op: ProductOp, r: u16) -> Link
-    ensures { result ≡ linked (T.rows_of (take 1600 words.now) l op r) }
+pub fn row_among(words: &[u32], l: u16, op: ProductOp, r: u16) -> Option<u16>
+    ensures { result ≡ T.rows_of (take 1600 words.now) l op r }
 {
     let rows = records(words);
     row_in(&rows, l, op, r)

@@ -1,6 +1,7 @@
 -- 01, 'Products, sums and powers': each in 01's order, line by line or along `>>`.
 use Rattle.std.specs.Prelude.{ℕ, cond, not, ◌||◌, List, [], ◌∷◌, map, eqb, ltb, get_or}
-use Rattle.std.proofs.Math.Option.{Option, some, none}
+use Rattle.std.specs.declared.option.Option.{Option}
+use Rattle.std.specs.declared.option.Option.TheVariants.{None, Some}
 use Rattle.laws.specs.Options.{found, or_else}
 use Rattle.laws.specs.Out.{Out, given, refused, ◌>>=◌, ◌>>◌, refuse_if, needed, known}
 use Rattle.dimension.specs.Fraction as F
@@ -10,8 +11,6 @@ use Rattle.dimension.specs.declared.rational.Rational.{Rational}
 use Rattle.dimension.specs.declared.dimensions.Dimensions.{Dimensions}
 use Rattle.dimension.specs.declared.grade.ProductOp.{ProductOp}
 use Rattle.dimension.specs.declared.grade.ProductOp.TheVariants.{Mul, Div, Dot, Wedge}
-use Rattle.dimension.specs.declared.grade.Grade.{Grade}
-use Rattle.dimension.specs.declared.grade.Grade.TheVariants.{Single, Absent}
 use Rattle.rules.specs.Kinds.{Kinds, Rows, Graded, same_op, point, duration, candidates}
 use Rattle.rules.specs.Refusal.{Answer, UnresolvedDimensions, Point, Ungraded, PowerOverLimits, NoKind, KindMismatch, UnsupportedOperation, UnresolvedTwin, NoProductKind, UngradedPower, NoPowerKind, UnresolvedPowerTwin, absent, code_of}
 
@@ -23,21 +22,17 @@ indexed K k = refuse_if (not (ltb k K.count)) (NoKind k)
 unfoldable pub operand : Kinds → ℕ → Answer Dimensions
 operand K k = needed (K.dims k) (UnresolvedDimensions k)
 
--- 24: "no single grade"
-abbrev pub single : {E : Type 0} → Grade → E → Out E ℕ
-single g x = elim g [ Single a ↦ given a | Absent ↦ refused x ]
-
 -- the grade rule, the same for every catalog
-unfoldable pub grade_by : Kinds → ProductOp → ℕ → ℕ → Grade
+unfoldable pub grade_by : Kinds → ProductOp → ℕ → ℕ → Option ℕ
 grade_by K op a b = G.product op a b
 
--- 24, returning the "kinds, grades"
+-- 24: "no single grade", returning the "kinds, grades"
 unfoldable pub graded : Kinds → ℕ → ProductOp → ℕ → Answer ℕ
-graded K l op r = single (grade_by K op (K.grade l) (K.grade r)) (Ungraded l r (K.grade l) (K.grade r))
+graded K l op r = needed (grade_by K op (K.grade l) (K.grade r)) (Ungraded l r (K.grade l) (K.grade r))
 
 -- "products add or subtract exponents"
 unfoldable pub joined : ProductOp → Dimensions → Dimensions → Dimensions
-joined op a b = cond (same_op op Div) (D.quotient a b).value (D.product a b).value
+joined op a b = cond (same_op op Div) (D.or_one (D.quotient a b)) (D.or_one (D.product a b))
 
 -- "Then for a product: 19 left, 19 right, 23 left, 23 right, 24."
 unfoldable pub derive : Kinds → ℕ → ProductOp → ℕ → Answer Graded
@@ -51,25 +46,25 @@ derive K l op r = do
 
 -- "Then the dimensionless kind is neutral in Mul (right, then left) and as divisor, and left = right in Div gives it"
 unfoldable pub neutral_by : ProductOp → ℕ → ℕ → ℕ → Option ℕ
-neutral_by Mul o l r = cond (eqb r o) (some l) (cond (eqb l o) (some r) none)
-neutral_by Div o l r = cond (eqb r o) (some l) (cond (eqb l r) (some o) none)
-neutral_by Dot o l r = none
-neutral_by Wedge o l r = none
+neutral_by Mul o l r = cond (eqb r o) (Some l) (cond (eqb l o) (Some r) None)
+neutral_by Div o l r = cond (eqb r o) (Some l) (cond (eqb l r) (Some o) None)
+neutral_by Dot o l r = None
+neutral_by Wedge o l r = None
 
 -- nothing is neutral where no dimensionless kind is declared
 unfoldable pub neutral : Kinds → ℕ → ProductOp → ℕ → Option ℕ
-neutral K l op r = found K.dimensionless (λ o. neutral_by op o l r) none
+neutral K l op r = found K.dimensionless (λ o. neutral_by op o l r) None
 
 -- "then a rate times duration gives its target, and the target over duration its rate"
 unfoldable pub rated_by : Kinds → ProductOp → ℕ → ℕ → ℕ → Option ℕ
-rated_by K Mul d l r = cond (eqb r d) (K.rate_of l) (cond (eqb l d) (K.rate_of r) none)
-rated_by K Div d l r = cond (eqb r d) (K.rate l) none
-rated_by K Dot d l r = none
-rated_by K Wedge d l r = none
+rated_by K Mul d l r = cond (eqb r d) (K.rate_of l) (cond (eqb l d) (K.rate_of r) None)
+rated_by K Div d l r = cond (eqb r d) (K.rate l) None
+rated_by K Dot d l r = None
+rated_by K Wedge d l r = None
 
 -- no kind is a rate's target or rate where there is no duration
 unfoldable pub rated : Kinds → ℕ → ProductOp → ℕ → Option ℕ
-rated K l op r = found (duration K) (λ d. rated_by K op d l r) none
+rated K l op r = found (duration K) (λ d. rated_by K op d l r) None
 
 -- the kind that is known already, or else those that fit
 abbrev pub or_fitting : Kinds → Option ℕ → Graded → List ℕ
@@ -103,12 +98,12 @@ agree expected actual k = cond (eqb expected actual) (given k) (refused (KindMis
 -- themselves." By the differences of left and right, which points alone have. Otherwise as the Rust's `Kind::sum`: 43 for point + point and for
 -- non-point − point, else 42
 unfoldable pub sum_by : Sum → Option ℕ → Option ℕ → ℕ → ℕ → Answer ℕ
-sum_by Sub (some d) (some e) l r = agree l r d
-sum_by Add (some d) (some e) l r = refused (UnsupportedOperation 2 l r)
-sum_by s (some d) none l r = agree d r l
-sum_by Add none (some e) l r = agree e l r
-sum_by Sub none (some e) l r = refused (UnsupportedOperation 3 l r)
-sum_by s none none l r = agree l r l
+sum_by Sub (Some d) (Some e) l r = agree l r d
+sum_by Add (Some d) (Some e) l r = refused (UnsupportedOperation 2 l r)
+sum_by s (Some d) None l r = agree d r l
+sum_by Add None (Some e) l r = agree e l r
+sum_by Sub None (Some e) l r = refused (UnsupportedOperation 3 l r)
+sum_by s None None l r = agree l r l
 
 -- a sum of kinds by their differences
 unfoldable pub sum : Kinds → Sum → ℕ → ℕ → Answer ℕ
@@ -121,22 +116,21 @@ scaled K code k = refuse_if (point K k) (UnsupportedOperation code k absent) >> 
 -- ---- powers
 -- "then exponent zero or the dimensionless kind gives that kind where declared"
 unfoldable pub neutral_power : Kinds → ℕ → Rational → Option ℕ
-neutral_power K k e = found K.dimensionless (λ o. cond (F.is_zero e || eqb k o) (some o) none) none
+neutral_power K k e = found K.dimensionless (λ o. cond (F.is_zero e || eqb k o) (Some o) None) None
 
 -- "46, 19, 28, then .., then 47 or 48"
 unfoldable pub raised : Kinds → ℕ → Rational → Answer ℕ
 raised K k e = do
   refuse_if (not (eqb (K.grade k) 0)) (UngradedPower (K.grade k))
   a ← operand K k
-  refuse_if (D.power a e).over (PowerOverLimits k)
-  d ← given (D.power a e).value
+  d ← needed (D.power a e) (PowerOverLimits k)
   settle (or_fitting K (neutral_power K k e) (record { dims = d; grade = 0 })) (refused (NoPowerKind d)) given (λ ks. refused (UnresolvedPowerTwin k e ks))
 
 -- "Power: 43 (point or inexact), exponent one gives the kind". No exponent: an inexact one; the code is the token's. A point is refused as in
 -- a scaling
 unfoldable pub power : Kinds → ℕ → ℕ → Option Rational → Answer ℕ
-power K code k none = refused (UnsupportedOperation code k absent)
-power K code k (some e) = scaled K code k >> cond (F.is_one e) (given k) (raised K k e)
+power K code k None = refused (UnsupportedOperation code k absent)
+power K code k (Some e) = scaled K code k >> cond (F.is_one e) (given k) (raised K k e)
 
 -- ---- the Rust's `Op`: what two kinds are combined by
 pub data Op : Type 0 where
@@ -153,7 +147,7 @@ ops = summed Add ∷ summed Sub ∷ multiplied Mul ∷ multiplied Div ∷ multip
 
 -- the operation that a lone lookup names by its token's code: 2 to 7, and none else
 unfoldable pub op_by : ℕ → Option Op
-op_by code = get_or (none ∷ none ∷ map some ops) code none
+op_by code = get_or (None ∷ None ∷ map Some ops) code None
 
 -- and back: the code of an operation's token
 abbrev pub op_code : Op → ℕ

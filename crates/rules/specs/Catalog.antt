@@ -1,14 +1,13 @@
 -- What an image declares, record by record, and the kinds and rows that its ids come to.
 use Rattle.std.specs.Prelude.{ℕ, ◌+◌, ◌*◌, ◌/◌, ◌%◌, Bool, true, false, cond, ◌&&◌, ◌||◌, List, [], ◌∷◌, eqb}
-use Rattle.std.proofs.Math.Option.{Option, some, none}
+use Rattle.std.specs.declared.option.Option.{Option}
+use Rattle.std.specs.declared.option.Option.TheVariants.{None, Some}
 use Rattle.laws.specs.Options.{is_some, found}
 use Rattle.laws.specs.Ranges.{first, tab, below}
 use Rattle.dimension.specs.Integer as I
 use Rattle.dimension.specs.Fraction as F
 use Rattle.dimension.specs.Dimension as D
 use Rattle.dimension.specs.declared.rational.Rational.{Rational}
-use Rattle.dimension.specs.declared.rational.Ratio.{Ratio}
-use Rattle.dimension.specs.declared.rational.Ratio.TheVariants.{Is, Over}
 use Rattle.dimension.specs.declared.dimensions.Dimensions.{Dimensions}
 use Rattle.dimension.specs.declared.grade.ProductOp.{ProductOp}
 use Rattle.rules.specs.Kinds.{Kinds, Rows, op_of, same_op}
@@ -49,8 +48,8 @@ unfoldable pub id_at : List ℕ → ℕ → Id
 id_at s p = tab (λ i. byte s (p + i)) 32
 
 -- an exponent, zero where there is none
-abbrev pub or_zero : Ratio → Rational
-or_zero r = elim r [ Is e ↦ e | Over ↦ F.zero ]
+abbrev pub or_zero : Option Rational → Rational
+or_zero r = elim r [ Some e ↦ e | None ↦ F.zero ]
 
 -- "signed 16-bit numerator, 16-bit denominator"; "A fraction is reduced on reading (2/4 is 1/2); zero means the base is absent."
 -- What is no fraction (4 refuses it first) reads as absent too.
@@ -59,7 +58,7 @@ exponent_at s p = or_zero (F.answer (I.twos 32768 (le2 s p)) (le2 s (p + 2)))
 
 -- "flag at 144 (1 dimensions given; 0 unresolved, ..)"
 unfoldable pub dims_at : List ℕ → ℕ → Option Dimensions
-dims_at s p = cond (eqb (byte s (p + 144)) 1) (some (D.dimensions (tab (λ b. exponent_at s (p + 96 + 4 * b)) 12))) none
+dims_at s p = cond (eqb (byte s (p + 144)) 1) (Some (D.dimensions (tab (λ b. exponent_at s (p + 96 + 4 * b)) 12))) None
 
 -- "id at 0, difference id at 32, rate-of id at 64, .., grade 0 to 3 at 145"
 unfoldable pub kind_from : List ℕ → ℕ → Kind
@@ -78,7 +77,7 @@ row_at s r = 512 * (1 + kind_blocks s + r / 5) + 4 + r % 5 * 100
 
 -- past the count nothing is declared
 abbrev pub absent_kind : Kind
-absent_kind = record { id = []; difference = []; rate_of = []; dims = none; grade = 0 }
+absent_kind = record { id = []; difference = []; rate_of = []; dims = None; grade = 0 }
 
 -- "dimensionless id at 12; time id at 44"
 unfoldable pub catalog_in : List ℕ → Catalog
@@ -103,7 +102,7 @@ module _ (C : Catalog) where
 
   -- what a declared id names
   unfoldable pub link : Id → Option ℕ
-  link id = cond (blank id) none (find id)
+  link id = cond (blank id) None (find id)
 
   -- what a kind's difference id and rate-of id name
   abbrev pub difference_of : ℕ → Option ℕ
@@ -132,7 +131,7 @@ module _ (C : Catalog) where
     grade = λ k. (C.kind k).grade;
     difference = difference_of;
     rate_of = target_of;
-    rate = below C.kind_count none (rate_among C.kind_count);
+    rate = below C.kind_count None (rate_among C.kind_count);
     dimensionless = link C.dimensionless;
     time = link C.time;
   }
@@ -151,4 +150,4 @@ module _ (C : Catalog) where
 
   -- the compiled rows: the result that the row for left, operation and right names
   unfoldable pub rows_of : Rows
-  rows_of l op r = found (row_among C.row_count l op r) (λ i. find (C.row i).result) none
+  rows_of l op r = found (row_among C.row_count l op r) (λ i. find (C.row i).result) None

@@ -1,7 +1,8 @@
 -- Compilation, "then as `Registry::compile`: all ids (empty, then duplicate, kind by kind); differences; dimensionless; time; rates in kind order;
 -- rows in order". A rule for each record, over the kinds that the whole catalog comes to: each reads only what earlier rules have checked.
 use Rattle.std.specs.Prelude.{ℕ, Bool, false, cond, not, ◌&&◌, List, eqb}
-use Rattle.std.proofs.Math.Option.{Option, some}
+use Rattle.std.specs.declared.option.Option.{Option}
+use Rattle.std.specs.declared.option.Option.TheVariants.{Some}
 use Rattle.laws.specs.Options.{found, is_some}
 use Rattle.laws.specs.Out.{given, refused, ◌>>=◌, ◌>>◌, refuse_if, refuse_found, needed, each}
 use Rattle.laws.specs.Ranges.{first}
@@ -51,7 +52,7 @@ module _ (C : Catalog) where
   unfoldable pub dimensionless_rule : Checked
   dimensionless_rule = if_declared C.dimensionless (do
     o ← called 0 C.dimensionless
-    refuse_if (not (eqb (role C o) 0 && same_dims (C.kind o).dims (some D.one))) (InvalidDimensionlessKind o))
+    refuse_if (not (eqb (role C o) 0 && same_dims (C.kind o).dims (Some D.one))) (InvalidDimensionlessKind o))
 
   -- "Time: 12, then 16."
   unfoldable pub time_rule : Checked
@@ -69,7 +70,7 @@ module _ (C : Catalog) where
     a ← operand K k
     operand K t
     c ← operand K d
-    x ← given (record { dims = (D.product a c).value; grade = K.grade k })
+    x ← given (record { dims = D.or_one (D.product a c); grade = K.grade k })
     refuse_if (not (carries K x t)) (RateMismatch x)
     refuse_found (rate_among C k t) AlsoRateOf)
 

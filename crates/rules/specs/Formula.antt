@@ -1,9 +1,10 @@
 -- Formulas in postfix order, walked with a stack. What a token does to the terms it takes is a machine's: one walk serves to find what is malformed
 -- (50), to give each step its kind, and to calculate from the leaves.
 use Rattle.std.specs.Prelude.{ℕ, suc, Bool, true, cond, List, [], ◌∷◌, ltb, pos, neg_ℤ, length}
-use Rattle.std.proofs.Math.Option.{Option, some, none}
+use Rattle.std.specs.declared.option.Option.{Option}
+use Rattle.std.specs.declared.option.Option.TheVariants.{None, Some}
 use Rattle.laws.specs.Options.{found}
-use Rattle.laws.specs.Out.{Out, given, refused, mapped, ◌>>◌}
+use Rattle.laws.specs.Out.{Out, given, refused, mapped, needed, ◌>>◌}
 use Rattle.dimension.specs.Fraction as F
 use Rattle.dimension.specs.Dimension as D
 use Rattle.dimension.specs.declared.rational.Rational.{Rational}
@@ -12,7 +13,7 @@ use Rattle.dimension.specs.declared.grade.ProductOp.{ProductOp}
 use Rattle.dimension.specs.declared.grade.ProductOp.TheVariants.{Mul, Div, Dot, Wedge}
 use Rattle.rules.specs.Kinds.{Kinds, Rows}
 use Rattle.rules.specs.Refusal.{Refusal, Answer, NumberTerm, code_of}
-use Rattle.rules.specs.Arithmetic.{Op, summed, multiplied, op_code, combine, power, scaled, agree, joined, single, indexed, grade_by}
+use Rattle.rules.specs.Arithmetic.{Op, summed, multiplied, op_code, combine, power, scaled, agree, joined, indexed, grade_by}
 
 -- ---- tokens
 -- "8 exact power, 9 inexact power, 10 absolute"
@@ -100,7 +101,7 @@ shape = record { number = tt; kind = λ k. given tt; unary = λ u a. given tt; b
 
 -- "first bad token; token count if the end leaves several"
 unfoldable pub malformed_at : List Token → Option ℕ
-malformed_at toks = elim (walk shape toks 0 []) [ answered u ↦ none | stopped p x ↦ absurd x | malformed p ↦ some p ]
+malformed_at toks = elim (walk shape toks 0 []) [ answered u ↦ None | stopped p x ↦ absurd x | malformed p ↦ Some p ]
 
 -- ---- the Rust's `Term`: "Each step answers as `Term::combine`, `power`, `absolute` or `same` does; compare leaves the left kind."
 pub data Term : Type 0 where
@@ -127,14 +128,14 @@ two_kinds K rows b l r = elim b [ combined op ↦ combine K rows op l r | compar
 
 -- `Term::power` and `absolute` of a kind, by the code of the token
 unfoldable pub one_kind : Kinds → Unary → ℕ → Answer ℕ
-one_kind K u k = elim u [ exact e ↦ power K 8 k (some e) | inexact ↦ power K 9 k none | absolute ↦ scaled K 10 k ]
+one_kind K u k = elim u [ exact e ↦ power K 8 k (Some e) | inexact ↦ power K 9 k None | absolute ↦ scaled K 10 k ]
 
 -- of two terms: numbers alone give a number
 unfoldable pub binary_term : Kinds → Rows → Binary → Term → Term → Answer Term
 binary_term K rows b Number Number = given Number
 binary_term K rows b (Kind l) (Kind r) = mapped Kind (two_kinds K rows b l r)
 binary_term K rows b (Kind k) Number = mapped Kind (with_number K b k (scaled K 5 k))
-binary_term K rows b Number (Kind k) = mapped Kind (with_number K b k (power K 5 k (some minus_one)))
+binary_term K rows b Number (Kind k) = mapped Kind (with_number K b k (power K 5 k (Some minus_one)))
 
 -- of one term: so does a number
 unfoldable pub unary_term : Kinds → Unary → Term → Answer Term
@@ -163,16 +164,16 @@ meaning K t = elim t [ Number ↦ plain | Kind k ↦ of (K.dims k) (K.grade k) ]
 
 -- "products add or subtract exponents"
 abbrev pub both : ProductOp → Option Dimensions → Option Dimensions → Option Dimensions
-both op a b = found a (λ x. found b (λ y. some (joined op x y)) none) none
+both op a b = found a (λ x. found b (λ y. Some (joined op x y)) None) None
 
 -- "power multiplies exponents, its grade scalar unless the exponent is one"
 abbrev pub powered : Rational → Option Dimensions → ℕ → Meaning
-powered e a g = cond (F.is_one e) (of a g) (of (found a (λ d. some (D.power d e).value) none) 0)
+powered e a g = cond (F.is_one e) (of a g) (of (found a (λ d. Some (D.or_one (D.power d e))) None) 0)
 
 -- "and use the grade rule"; "scaling (by a number) .. keep; number / kind is power −1; numbers alone give a number"
 unfoldable pub product_of : Kinds → ProductOp → Meaning → Meaning → Out (Unit {0}) Meaning
 product_of K op plain plain = given plain
-product_of K op (of a g) (of b h) = mapped (of (both op a b)) (single (grade_by K op g h) tt)
+product_of K op (of a g) (of b h) = mapped (of (both op a b)) (needed (grade_by K op g h) tt)
 product_of K op (of a g) plain = by_number op (given (of a g)) (given (of a g)) tt
 product_of K op plain (of b h) = by_number op (given (of b h)) (given (powered minus_one b h)) tt
 

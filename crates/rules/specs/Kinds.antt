@@ -1,6 +1,7 @@
 -- A compiled catalog: what its kinds are, and which kind a row names. Both are functions of indexes; how they are laid out in words is told in Table.
 use Rattle.std.specs.Prelude.{ℕ, Bool, false, not, ◌&&◌, List, [], ◌∷◌, eqb, get_or}
-use Rattle.std.proofs.Math.Option.{Option, none}
+use Rattle.std.specs.declared.option.Option.{Option}
+use Rattle.std.specs.declared.option.Option.TheVariants.{None}
 use Rattle.laws.specs.Options.{is_some, found}
 use Rattle.laws.specs.Ranges.{picked}
 use Rattle.dimension.specs.Dimension as D
@@ -43,7 +44,7 @@ point K k = is_some (K.difference k)
 
 -- "Duration is the time kind's difference."
 abbrev pub duration : Kinds → Option ℕ
-duration K = found K.time K.difference none
+duration K = found K.time K.difference None
 
 -- dimensions at a grade: what a product has, before any kind is chosen
 abbrev pub Graded : Type 0

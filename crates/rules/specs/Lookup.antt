@@ -1,11 +1,11 @@
 -- A lone lookup over lent words. "Order for a lone lookup: 5, 40, 50 (operation without a code here, or exponent outside its limits), 41 left, 41
 -- right." Its place is 0.
 use Rattle.std.specs.Prelude.{ℕ, not, ◌&&◌, List, [], ℤ, length}
-use Rattle.std.proofs.Math.Option.{Option, some, none}
+use Rattle.std.specs.declared.option.Option.{Option}
+use Rattle.std.specs.declared.option.Option.TheVariants.{None, Some}
 use Rattle.laws.specs.Out.{given, refused, ◌>>=◌, ◌>>◌, refuse_if, needed}
 use Rattle.dimension.specs.Fraction as F
 use Rattle.dimension.specs.declared.rational.Rational.{Rational}
-use Rattle.dimension.specs.declared.rational.Ratio.TheVariants.{Is, Over}
 use Rattle.rules.specs.Refusal.{Answer, Placed, at, NoTable, Malformed}
 use Rattle.rules.specs.Arithmetic as rule
 use Rattle.rules.specs.Table.{table_size, room_for, kinds_of, rows_of, is_table, are_rows}
@@ -35,8 +35,8 @@ pub data Exponent : Type 0 where
 
 -- 50: "exponent outside its limits"
 abbrev pub exponent : Exponent → Answer (Option Rational)
-exponent (exact n d) = elim (F.answer n d) [ Is e ↦ given (some e) | Over ↦ refused (Malformed 0) ]
-exponent inexact = given none
+exponent (exact n d) = elim (F.answer n d) [ Some e ↦ given (Some e) | None ↦ refused (Malformed 0) ]
+exponent inexact = given None
 
 -- "8 exact power, 9 inexact power"
 abbrev pub power_code : Exponent → ℕ

@@ -1,6 +1,7 @@
 -- Why something is refused: a case for each cause of 01's table, with all that is returned; its number, values and twin list.
 use Rattle.std.specs.Prelude.{ℕ, ◌+◌, List, [], ◌∷◌, length}
-use Rattle.std.proofs.Math.Option.{Option, some, none}
+use Rattle.std.specs.declared.option.Option.{Option}
+use Rattle.std.specs.declared.option.Option.TheVariants.{None, Some}
 use Rattle.laws.specs.Out.{Out, given, refused}
 use Rattle.laws.specs.Ranges.{overlay}
 use Rattle.dimension.specs.declared.rational.Rational.{Rational}
@@ -47,13 +48,13 @@ Told = record { number : ℕ; dims : Option Dimensions; values : List ℕ; twins
 
 -- a line of 01's table: number and values; with dimensions; with twins, whose count is returned
 abbrev says : ℕ → List ℕ → Told
-says n vs = record { number = n; dims = none; values = vs; twins = [] }
+says n vs = record { number = n; dims = None; values = vs; twins = [] }
 
 abbrev says_dims : ℕ → Dimensions → ℕ → Told
-says_dims n d g = record { number = n; dims = some d; values = g ∷ []; twins = [] }
+says_dims n d g = record { number = n; dims = Some d; values = g ∷ []; twins = [] }
 
 abbrev says_twins : ℕ → List ℕ → Told
-says_twins n ks = record { number = n; dims = none; values = length ks ∷ []; twins = ks }
+says_twins n ks = record { number = n; dims = None; values = length ks ∷ []; twins = ks }
 
 -- "No." and "Returned", cause by cause
 unfoldable pub told : Refusal → Told

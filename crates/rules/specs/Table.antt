@@ -1,7 +1,8 @@
 -- The table's words, 16 + 240 × 32 + 400 × 4: what they are read as, which words are a table (40), and which words a compilation writes.
 -- docs/TABLE.md has the layout as a picture.
 use Rattle.std.specs.Prelude.{ℕ, zero, suc, ◌+◌, ◌*◌, ◌-◌, ◌/◌, ◌%◌, min, Bool, true, cond, not, ◌&&◌, ◌||◌, List, [], ◌∷◌, ◌++◌, eqb, ltb, leb, length, get_or, take, drop}
-use Rattle.std.proofs.Math.Option.{Option, some, none}
+use Rattle.std.specs.declared.option.Option.{Option}
+use Rattle.std.specs.declared.option.Option.TheVariants.{None, Some}
 use Rattle.laws.specs.Options.{found, is_some}
 use Rattle.laws.specs.Out.{refuse_if}
 use Rattle.laws.specs.Ranges.{first, all, tab, below}
@@ -41,7 +42,7 @@ kinds_in t = min 240 (word t 0)
 
 -- an index, or none
 abbrev pub index_or : ℕ → Option ℕ
-index_or w = cond (ltb w absent) (some w) none
+index_or w = cond (ltb w absent) (Some w) None
 
 -- the exponent of base b of those from place p on: the numerator's bits, the denominator
 unfoldable pub exponent_from : List ℕ → ℕ → ℕ → Rational
@@ -55,11 +56,11 @@ dims_from t p = D.dimensions (tab (exponent_from t p) 12)
 unfoldable pub kinds_of : List ℕ → Kinds
 kinds_of t = record {
   count = kinds_in t;
-  dims = below (kinds_in t) none (λ k. cond (eqb (word t (kind_place k + 24)) 1) (some (dims_from t (kind_place k))) none);
+  dims = below (kinds_in t) None (λ k. cond (eqb (word t (kind_place k + 24)) 1) (Some (dims_from t (kind_place k))) None);
   grade = below (kinds_in t) 0 (λ k. word t (kind_place k + 25));
-  difference = below (kinds_in t) none (λ k. index_or (word t (kind_place k + 27)));
-  rate_of = below (kinds_in t) none (λ k. index_or (word t (kind_place k + 28)));
-  rate = below (kinds_in t) none (λ k. index_or (word t (kind_place k + 29)));
+  difference = below (kinds_in t) None (λ k. index_or (word t (kind_place k + 27)));
+  rate_of = below (kinds_in t) None (λ k. index_or (word t (kind_place k + 28)));
+  rate = below (kinds_in t) None (λ k. index_or (word t (kind_place k + 29)));
   dimensionless = index_or (word t 2);
   time = index_or (word t 3);
 }
@@ -70,7 +71,7 @@ is_row s l op r i = eqb (word s (4 * i)) l && eqb (word s (4 * i + 1)) (op_word 
 
 -- "the first for a pair counts"
 unfoldable pub rows_of : List ℕ → Rows
-rows_of s l op r = found (first (is_row s l op r) (length s / 4)) (λ i. index_or (word s (4 * i + 3))) none
+rows_of s l op r = found (first (is_row s l op r) (length s / 4)) (λ i. index_or (word s (4 * i + 3))) None
 
 -- ---- 40: "Words are a table exactly if counts, indexes, roles, grades and declared exponents lie in their ranges, fractions reduced, and exactly
 -- the points have a difference."

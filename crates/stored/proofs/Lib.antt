@@ -1,4 +1,3 @@
 -- What the proofs of this crate cite.
 mod Compared
-mod Sums
 mod Unpacks

@@ -5,11 +5,11 @@ use mathlib.Core.List.{List, [], ◌∷◌, ◌++◌, append-nil}
 use native.Mathlib.Nat.{not-suc-le-zero, le_antisymm}
 use native.Mathlib.Numerals.{add-one}
 use native.Mathlib.Omega.{arith}
-use lib.ListN.{length, get_or, take, drop, set, replicate, length-drop, drop_of_length-le, length-replicate, replicate-append-replicate}
-use lib.Seq.{length-take-le, take_all, take-suc, drop-cons, take-suc-set, get_or-drop, drop-drop}
+use lib.ListN.{length, get_or, take, drop, set, replicate, length-drop, drop_of_length-le}
+use lib.Seq.{length-take-le, take_all, take-suc, drop-cons, get_or-drop, drop-drop}
 use Rattle.laws.specs.Ranges.{overlay}
 use Rattle.laws.proofs.Overlay.{overlay_next}
-use Rattle.stored.specs.Packed.{unpacked, in_room}
+use Rattle.stored.specs.Packed.{unpacked}
 
 -- ---- what the bytes stand for
 less_one : (n : ℕ) → suc n - 1 ≡ n
@@ -83,16 +83,3 @@ module _ (u t₀ : List ℕ) (at : ℕ) where
 
   pub full : {t : List ℕ} → t ≡ overlay (take at u) t₀ → at ≤ length t₀ → length t₀ ≤ at → t ≡ overlay (take (length t₀) u) t₀
   full p l h = rw (le_antisymm h l) p
-
--- ---- a buffer filled with zeros, the first i so far
-module _ (t : List ℕ) (i : ℕ) where
-  pub zero_next : i < length t → take i t ≡ replicate i 0 → take (i + 1) (set t i 0) ≡ replicate (i + 1) 0
-  zero_next l e = rw (add-one i, take-suc-set t i 0 l, e) (replicate-append-replicate i 1 0 ∙ ap (λ (k : ℕ). replicate k 0) (add-one i))
-
-  pub zero_end : (n : ℕ) → n ≡ i → length t ≡ n → take i t ≡ replicate i 0 → t ≡ replicate n 0
-  zero_end n q l e = rw q (sym (take_all i t (omega (arith, q, l))) ∙ e)
-
--- ---- zeros, and then the bytes over them
-pub room_told : (m : ℕ) (u : List ℕ) {t v : List ℕ} → t ≡ replicate m 0 → v ≡ overlay (take (length t) u) t → v ≡ in_room m u
-unfolding in_room
-room_told m u e f = rw (e, length-replicate) at f

@@ -1,15 +1,14 @@
 -- What a stored answer says of an answer given here (docs/VECTORS.md, 'An answer').
-use Rattle.std.specs.Prelude.{ℕ, ◌+◌, ◌*◌, Bool, true, false, cond, ◌&&◌, ◌||◌, List, leb, eqb, length, get_or, drop}
+use Rattle.std.specs.Prelude.{ℕ, ◌+◌, ◌*◌, Bool, true, ◌&&◌, ◌||◌, List, leb, eqb, length, get_or, drop}
+use Rattle.std.specs.declared.option.Option.{Option}
+use Rattle.std.specs.declared.option.Option.TheVariants.{None, Some}
 use Rattle.laws.specs.Ranges.{all}
 use Rattle.rules.specs.Bytes.{byte, le2, le4}
 use Rattle.dimension.specs.Dimension as D
 use Rattle.dimension.specs.declared.dimensions.Dimensions.{Dimensions}
-use Rattle.error.specs.Shown.{said_of, has_dims}
-use Rattle.error.specs.declared.cause.Error.{Error}
-use Rattle.error.specs.declared.cause.Said.{Said}
-use Rattle.error.specs.declared.answer.Answer.{Answer}
-use Rattle.error.specs.declared.answer.Verdict.{Verdict}
-use Rattle.error.specs.declared.answer.Verdict.TheVariants.{Fine, Number, Kind, Refused}
+use Rattle.error.specs.Shown.{said_of}
+use Rattle.error.specs.declared.fault.Fault.{Fault}
+use Rattle.error.specs.declared.said.Said.{Said}
 use Rattle.stored.specs.Exponents.{dimensions}
 
 -- where the twins stand, and where the answer ends
@@ -38,33 +37,31 @@ unfoldable pub values_as : List ℕ → ℕ → Said → Bool
 values_as s at said = all (value_as s at said) said.count
 
 -- the numbers that dimensions take before the values
-unfoldable pub numbers_before : Error → ℕ
-numbers_before e = cond (has_dims e) 24 0
+unfoldable pub numbers_before : Option Dimensions → ℕ
+numbers_before (Some d) = 24
+numbers_before None = 0
 
-unfoldable pub dimensions_as : List ℕ → Error → Dimensions → Bool
-dimensions_as s e d = cond (has_dims e) (D.equal d (dimensions (drop 8 s))) true
+unfoldable pub dimensions_as : List ℕ → Option Dimensions → Bool
+dimensions_as s (Some d) = D.equal d (dimensions (drop 8 s))
+dimensions_as s None = true
 
-unfoldable pub numbers_as : List ℕ → Error → Dimensions → Bool
-numbers_as s e d =
-    eqb (le2 s 4) (numbers_before e + (said_of e).count) && dimensions_as s e d && values_as s (8 + 4 * numbers_before e) (said_of e)
+unfoldable pub numbers_as : List ℕ → Said → Bool
+numbers_as s said =
+    eqb (le2 s 4) (numbers_before said.dims + said.count) && dimensions_as s said.dims && values_as s (8 + 4 * numbers_before said.dims) said
 
-unfoldable pub cause_as : List ℕ → Error → ℕ → Bool
-cause_as s e place = eqb (byte s 0) 2 && eqb (byte s 1) (said_of e).number && place_as (le2 s 2) place
-
-unfoldable pub refusal_as : List ℕ → Error → ℕ → Dimensions → List ℕ → Bool
-refusal_as s e place d twins = cause_as s e place && numbers_as s e d && twins_as s twins
+unfoldable pub cause_as : List ℕ → Said → ℕ → Bool
+cause_as s said place = eqb (byte s 0) 2 && eqb (byte s 1) said.number && place_as (le2 s 2) place
 
 -- a number or a kind: nothing else is stored with it
 unfoldable pub plain_as : List ℕ → ℕ → ℕ → Bool
 plain_as s what index = eqb (le2 s 0) what && eqb (le2 s 2) index && eqb (le4 s 4) 0
 
--- a check that passed is never stored so
-abbrev pub verdict_as : List ℕ → Verdict → ℕ → Dimensions → List ℕ → Bool
-verdict_as s Fine place d twins = false
-verdict_as s Number place d twins = plain_as s 0 0
-verdict_as s (Kind k) place d twins = plain_as s 1 k
-verdict_as s (Refused e) place d twins = refusal_as s e place d twins
+-- ---- the answer that s begins with is a number, this kind, or this refusal, with this twin list
+unfoldable pub number_as : List ℕ → Bool
+number_as s = plain_as s 0 0
 
--- the answer that s begins with is this one, with this twin list
-unfoldable pub stored_as : List ℕ → Answer → List ℕ → Bool
-stored_as s a twins = verdict_as s a.verdict a.place a.dims twins
+unfoldable pub kind_as : List ℕ → ℕ → Bool
+kind_as s k = plain_as s 1 k
+
+unfoldable pub refusal_as : List ℕ → Fault → List ℕ → Bool
+refusal_as s x twins = cause_as s (said_of x.error) x.place && numbers_as s (said_of x.error) && twins_as s twins

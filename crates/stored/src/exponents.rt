@@ -2,11 +2,12 @@
 ghost use Rattle.std.specs.Prelude.{◌≡◌, drop};
 ghost use Rattle.stored.specs.Exponents as E;
 
-use crate::files::after;
 use dimension::{Dimensions, Rational, signed32};
 use numbers::u32_at;
+use slices::after;
 
 // The exponent at `at`.
+#[tactic(auto, unfolding(crate::specs::Exponents::exponent))]
 pub fn exponent(s: &[u8], at: usize) -> Rational
     ensures { result ≡ E.exponent (drop at s.now) }
 {
@@ -18,15 +19,14 @@ pub fn exponent(s: &[u8], at: usize) -> Rational
 }
 
 // The dimensions at `at`.
+#[tactic(auto, using(laws::proofs::Tab::fills), unfolding(crate::specs::Exponents::dimensions))]
 pub fn dimensions(s: &[u8], at: usize) -> Dimensions
     ensures { result ≡ E.dimensions (drop at s.now) }
 {
     let e = after(s, at);
     let mut d = Dimensions::one();
-    let mut i: usize = 0;
-    while i < 12 {
+    for i in 0..12 {
         d.powers[i] = exponent(e, 8 * i);
-        i += 1;
     }
     d
 }

@@ -7,8 +7,8 @@ mod files;
 mod packed;
 mod tally;
 
-pub use answers::{agrees, answer_size};
+pub use answers::{answer_size, is_kind, is_number, is_refusal};
 pub use exponents::{dimensions, exponent};
-pub use files::{after, front, is_group};
+pub use files::is_group;
 pub use packed::unpack;
-pub use tally::{ROOM, Tally, UNREADABLE};
+pub use tally::{ROOM, Tally, UNREADABLE, read, room};

@@ -1,20 +1,9 @@
 // A packed image: pairs of bytes, how many zeros and how many of the bytes after the pair, which stand for themselves.
-ghost use Rattle.std.specs.Prelude.{◌≡◌, length, take, replicate};
+ghost use Rattle.std.specs.Prelude.{◌≡◌, length, take};
 ghost use Rattle.laws.specs.Ranges.{overlay};
 ghost use Rattle.stored.specs.Packed.{unpacked, in_room};
 
 use numbers::byte_at;
-
-fn clear(image: &mut [u8])
-    ensures { image.new ≡ replicate (length image.old) 0 }
-{
-    let n = image.len();
-    let mut i: usize = 0;
-    while i < n {
-        image[i] = 0;
-        i += 1;
-    }
-}
 
 // What the pairs stand for, written over the front of the image; the rest of it stays.
 fn write(s: &[u8], image: &mut [u8])
@@ -24,6 +13,7 @@ fn write(s: &[u8], image: &mut [u8])
     let mut at: usize = 0;
     let mut zeros: usize = 0;
     let mut left: usize = 0;
+    // Not a `for`: a turn writes a byte or reads a pair, so neither place moves on in each.
     while at < image.len() {
         if 0 < zeros {
             image[at] = 0;
@@ -48,9 +38,10 @@ fn write(s: &[u8], image: &mut [u8])
 }
 
 // The unpacked image in a lent buffer: as much of it as there is room for, and zeros after it.
+#[tactic(auto, unfolding(crate::specs::Packed::in_room))]
 pub fn unpack(s: &[u8], image: &mut [u8])
     ensures { image.new ≡ in_room (length image.old) (unpacked 0 s.now) }
 {
-    clear(image);
+    image.fill(0);
     write(s, image);
 }

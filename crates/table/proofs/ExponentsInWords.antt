@@ -1,6 +1,6 @@
 -- Exponents in words: two words are equal just where the exponents that they stand for are (`same_ratio`); dimensions read (`dims_end`), compared
 -- (`sames`) and written (`words_next`) pair by pair. Assumes nothing.
-use Prim.Native.Nat.{ℕ, ◌+◌, ◌*◌, ◌<◌, ◌≤◌}
+use Prim.Native.Nat.{ℕ, ◌+◌, ◌*◌, ◌/◌, ◌%◌, ◌<◌, ◌≤◌}
 use mathlib.Core.Path.{◌≡◌, refl, sym, ◌∙◌, ap, ap₂}
 use mathlib.Core.Bool.{Bool, true, false, true≢false, ◌&&◌}
 use mathlib.Core.List.{List, [], ◌∷◌, ◌++◌}
@@ -11,8 +11,9 @@ use lib.Dec.{eqb}
 use lib.ListN.{length, get_or, set, take, length-set}
 use lib.Seq.{get_or-set_same, get_or-set_other, take-suc}
 use borrow.Author.Tests.{eqb-true, eqb-false}
+use Rattle.std.proofs.lemmas.List.{get_or_default}
 use Rattle.laws.specs.Ranges.{tab}
-use Rattle.laws.proofs.Tab.{tab_at, tab_same, fill_end}
+use Rattle.laws.proofs.Tab.{tab_at, tab_same, fill_next, fill_end}
 use Rattle.dimension.specs.Integer.{twos, bits32}
 use Rattle.dimension.specs.Fraction as F
 use Rattle.dimension.specs.Dimension as D
@@ -21,7 +22,8 @@ use Rattle.dimension.specs.declared.dimensions.Dimensions.{Dimensions}
 use Rattle.dimension.proofs.BitLaws.{bits_twos}
 use Rattle.dimension.proofs.ExponentLaws as E
 use Rattle.dimension.proofs.DimensionLaws as L
-use Rattle.rules.specs.Table.{word, exponent_from, dims_from}
+use Rattle.rules.specs.Table.{word, exponent_from, dims_from, exponent_word}
+use Rattle.table.specs.Shown.{exponents_of}
 
 -- ---- equality as a test, of exponents and of dimensions
 differ : (a b : Rational) → (a ≡ b → ⊥) → false ≡ F.equal a b
@@ -144,3 +146,31 @@ module _ (w : List ℕ) (i n m : ℕ) (l : length w ≡ 24) (h : i < 12) where
 
 pub words_end : (w : List ℕ) (i : ℕ) (d : Dimensions) → length d.powers ≡ 12 → i ≤ 12 → 12 ≤ i → tab (exponent_from w 0) i ≡ take i d.powers → dims_from w 0 ≡ d
 words_end w i d l h k e = sym (dims_end w 0 i d l h k (sym e))
+
+-- and word by word
+abbrev pub word_of : Dimensions → ℕ → ℕ
+word_of d j = exponent_word (D.exponent d (j / 2)) j
+
+pub bits_none : (d : Dimensions) → [] ≡ tab (word_of d) 0
+unfolding tab
+bits_none d = refl
+
+module _ (d : Dimensions) (w : List ℕ) (i : ℕ) where
+  pub bits_next : (n m : ℕ) (x z : Rational) → length w ≡ 24 → i < 12 → length d.powers ≡ 12 → x ≡ get_or d.powers i z → n < 4294967296 → twos 2147483648 n ≡ x.num → m ≡ x.den
+      → take (2 * i) w ≡ tab (word_of d) (2 * i) → take (2 * (i + 1)) (written w i n m) ≡ tab (word_of d) (2 * (i + 1))
+  unfolding exponent_word
+  bits_next n m x z l h k y b q r e =
+      let half : 2 * i / 2 ≡ i = omega arith in
+      let half' : (2 * i + 1) / 2 ≡ i = omega arith in
+      let even : 2 * i % 2 ≡ 0 = omega arith in
+      let odd : (2 * i + 1) % 2 ≡ 1 = omega arith in
+      let next : 2 * (i + 1) ≡ 2 * i + 1 + 1 = omega arith in
+      let here : x ≡ D.exponent d i = y ∙ get_or_default d.powers i z F.zero (rw k h) in
+      let u : n ≡ word_of d (2 * i) = rw (half, even, ← here, ← q) (sym (bits_twos n b)) in
+      let v : m ≡ word_of d (2 * i + 1) = rw (half', odd, ← here) r in
+      let first = fill_next (word_of d) (2 * i) 24 w e l (omega arith) u in
+      rw next (fill_next (word_of d) (2 * i + 1) 24 (set w (2 * i) n) first (length-set w (2 * i) n ∙ l) (omega arith) v)
+
+  pub bits_end : length w ≡ 24 → i ≤ 12 → 12 ≤ i → take (2 * i) w ≡ tab (word_of d) (2 * i) → w ≡ exponents_of d
+  unfolding exponents_of
+  bits_end l h k e = fill_end (word_of d) (2 * i) 24 w e l (omega arith) (omega arith)

@@ -1,7 +1,13 @@
--- What private functions of the crate compute.
-use Rattle.std.specs.Prelude.{ℕ, ◌+◌, ◌*◌, Bool, ◌&&◌, List, eqb}
-use Rattle.laws.specs.Ranges.{below}
-use Rattle.rules.specs.Table.{word, kinds_in, kind_place}
+-- The words of dimensions, and what private functions of the crate compute.
+use Rattle.std.specs.Prelude.{ℕ, ◌+◌, ◌*◌, ◌/◌, Bool, ◌&&◌, List, eqb}
+use Rattle.laws.specs.Ranges.{below, tab}
+use Rattle.dimension.specs.Dimension as D
+use Rattle.dimension.specs.declared.dimensions.Dimensions.{Dimensions}
+use Rattle.rules.specs.Table.{word, kinds_in, kind_place, exponent_word}
+
+-- the exponents of dimensions as words, two for each
+unfoldable pub exponents_of : Dimensions → List ℕ
+exponents_of d = tab (λ i. exponent_word (D.exponent d (i / 2)) i) 24
 
 -- word f of kind k, or d past the count
 unfoldable pub field : List ℕ → ℕ → ℕ → ℕ → ℕ

@@ -1,16 +1,16 @@
 // What the table says of kind k. Past the count no word of a kind is read, so there is an answer for every k.
+#![tactic(auto, using(crate::proofs::Fields::fields))]
+
 ghost use Rattle.std.specs.Prelude.{◌≡◌, ◌<◌};
 ghost use Rattle.laws.specs.Options.{found, is_some};
 ghost use Rattle.dimension.specs.Dimension as D;
 ghost use Rattle.rules.specs.Kinds as K;
 ghost use Rattle.rules.specs.Table as T;
-ghost use Rattle.error.specs.Shown.{linked};
 ghost use Rattle.table.specs.Shown.{field};
 
 use crate::places::{DIFFERENCE, FLAG, GRADE, KIND, KINDS, RATE, TARGET};
 use crate::words::{dims_from, index_or, word};
 use dimension::Dimensions;
-use error::Link;
 
 // At most 240, whatever the word says.
 pub fn kind_count(t: &[u32]) -> u16
@@ -57,22 +57,22 @@ pub fn grade_of(t: &[u32], k: u16) -> u32
     field(t, k, GRADE, 0)
 }
 
-pub fn difference_of(t: &[u32], k: u16) -> Link
-    ensures { result ≡ linked ((T.kinds_of t.now).difference k) }
+pub fn difference_of(t: &[u32], k: u16) -> Option<u16>
+    ensures { result ≡ (T.kinds_of t.now).difference k }
 {
     index_or(field(t, k, DIFFERENCE, 65535))
 }
 
 // The kind that k is the rate of.
-pub fn target_of(t: &[u32], k: u16) -> Link
-    ensures { result ≡ linked ((T.kinds_of t.now).rate_of k) }
+pub fn target_of(t: &[u32], k: u16) -> Option<u16>
+    ensures { result ≡ (T.kinds_of t.now).rate_of k }
 {
     index_or(field(t, k, TARGET, 65535))
 }
 
 // The kind that is the rate of k.
-pub fn rate_of(t: &[u32], k: u16) -> Link
-    ensures { result ≡ linked ((T.kinds_of t.now).rate k) }
+pub fn rate_of(t: &[u32], k: u16) -> Option<u16>
+    ensures { result ≡ (T.kinds_of t.now).rate k }
 {
     index_or(field(t, k, RATE, 65535))
 }
@@ -84,24 +84,24 @@ pub fn is_point(t: &[u32], k: u16) -> bool
     field(t, k, DIFFERENCE, 65535) < 65535
 }
 
-pub fn dimensionless(t: &[u32]) -> Link
-    ensures { result ≡ linked (T.kinds_of t.now).dimensionless }
+#[tactic(auto, unfolding(rules::specs::Table::kinds_of))]
+pub fn dimensionless(t: &[u32]) -> Option<u16>
+    ensures { result ≡ (T.kinds_of t.now).dimensionless }
 {
     index_or(word(t, 2))
 }
 
-pub fn time(t: &[u32]) -> Link
-    ensures { result ≡ linked (T.kinds_of t.now).time }
+#[tactic(auto, unfolding(rules::specs::Table::kinds_of))]
+pub fn time(t: &[u32]) -> Option<u16>
+    ensures { result ≡ (T.kinds_of t.now).time }
 {
     index_or(word(t, 3))
 }
 
 // The time kind's difference.
-pub fn duration(t: &[u32]) -> Link
-    ensures { result ≡ linked (K.duration (T.kinds_of t.now)) }
+pub fn duration(t: &[u32]) -> Option<u16>
+    ensures { result ≡ K.duration (T.kinds_of t.now) }
 {
-    match time(t) {
-        Link::To(k) => difference_of(t, k),
-        Link::Nowhere => Link::Nowhere,
-    }
+    let k = time(t)?;
+    difference_of(t, k)
 }

@@ -1,105 +1,92 @@
 // Rows in force, four words each: left, operation, right, result.
-ghost use Rattle.std.specs.Prelude.{◌≡◌, ◌+◌, ◌-◌, ◌*◌, ◌<◌, ◌≤◌, length, take, drop};
-ghost use Rattle.std.proofs.Math.Option.{none};
+ghost use Rattle.std.specs.Prelude.{◌≡◌, ◌+◌, ◌*◌, ◌/◌, ◌≤◌, length};
 ghost use Rattle.laws.specs.Options.{is_some};
-ghost use Rattle.laws.specs.Ranges.{first_from};
+ghost use Rattle.laws.specs.Ranges.{first, first_from};
 ghost use Rattle.rules.specs.Table as T;
-ghost use Rattle.error.specs.Shown.{linked};
 ghost use Rattle.table.specs.Shown.{left_is, row_for};
 
 use crate::places::{ROWS, op_word};
 use crate::words::{index_or, word};
 use dimension::ProductOp;
-use error::Link;
+use slices::part;
 
 // Whether one of the sixteen rows from row `from` on, all of them there, has this left kind. None of them ends the loop, so that several are compared
 // at once.
+#[tactic(auto, using(laws::proofs::FirstFrom::anys), unfolding(crate::specs::Shown::left_is))]
 fn any_left(s: &[u32], from: usize, l: u16) -> bool
     requires { 4 * (from + 16) ≤ length s.now }
     ensures { result ≡ is_some (first_from (left_is s.now l) from 16) }
 {
     let mut any = false;
-    let mut i: usize = 0;
-    while i < 16 {
+    for i in 0..16 {
         any = any | (s[4 * (from + i)] == l as u32);
-        i += 1;
     }
     any
 }
 
-// The rows from row `from` on, sixteen at a time, that are passed over: none of them has this left kind.
-fn passed_over(s: &[u32], l: u16, from: usize, n: usize) -> usize
-    requires n_in_bounds { 4 * n ≤ length s.now }
-    requires from_le_n { from ≤ n }
-    ensures lower_bound { (from ≤ result) × (result ≤ n) }
-    ensures from_value { first_from (left_is s.now l) from (result - from) ≡ none }
-{
-    let mut i = from;
-    while 16 <= n - i {
-        if any_left(s, i, l) {
-            return i;
-        }
-        i += 16;
-    }
-    i
-}
-
-// The first row from row `from` on that has this left kind, or n.
-fn next_left(s: &[u32], l: u16, from: usize, n: usize) -> usize
-    requires n_in_bounds { 4 * n ≤ length s.now }
-    requires from_le_n { from ≤ n }
-    ensures lower_bound { (from ≤ result) × (result ≤ n) }
-    ensures from_value { first_from (left_is s.now l) from (result - from) ≡ none }
-{
-    let mut i = passed_over(s, l, from, n);
-    while i < n {
-        if s[4 * i] == l as u32 {
-            return i;
-        }
-        i += 1;
-    }
-    i
-}
-
-// Whether row i is for that very left, operation and right.
+// Whether row i, which is there, is for that very left, operation and right.
+#[tactic(auto, unfolding(crate::specs::Shown::row_for))]
 fn row_for(s: &[u32], l: u16, o: u32, r: u16, i: usize) -> bool
-    requires { i < 2305843009213693952 }
+    requires { 4 * (i + 1) ≤ length s.now }
     ensures { result ≡ row_for s.now l o r i }
 {
-    (word(s, 4 * i) == l as u32) & (word(s, 4 * i + 1) == o) & (word(s, 4 * i + 2) == r as u32)
+    if s[4 * i] != l as u32 {
+        return false;
+    }
+    (s[4 * i + 1] == o) & (s[4 * i + 2] == r as u32)
+}
+
+// The first of the m rows from row `from` on, all of them there, that is for that very pair.
+#[tactic(auto, using(laws::proofs::FirstFrom::spans))]
+fn first_row(s: &[u32], from: usize, m: usize, l: u16, o: u32, r: u16) -> Option<usize>
+    requires { 4 * (from + m) ≤ length s.now }
+    ensures { result ≡ first_from (row_for s.now l o r) from m }
+{
+    for i in 0..m {
+        if row_for(s, l, o, r, from + i) {
+            return Some(from + i);
+        }
+    }
+    None
+}
+
+// The first of the sixteen rows from row `from` on. They are passed over at once where none of them has this left kind.
+#[tactic(auto, using(crate::proofs::Scanned::passed_over))]
+fn of_sixteen(s: &[u32], from: usize, l: u16, o: u32, r: u16) -> Option<usize>
+    requires { 4 * (from + 16) ≤ length s.now }
+    ensures { result ≡ first_from (row_for s.now l o r) from 16 }
+{
+    if !any_left(s, from, l) {
+        return None;
+    }
+    first_row(s, from, 16, l, o, r)
+}
+
+// The first row that is for that very pair: sixteen at a time, and then those that are left.
+#[tactic(auto, using(laws::proofs::First::first_none, crate::proofs::Scanned::blocks))]
+fn found_row(s: &[u32], l: u16, o: u32, r: u16) -> Option<usize>
+    ensures { result ≡ first (row_for s.now l o r) (length s.now / 4) }
+{
+    let n = s.len() / 4;
+    for block in 0..n / 16 {
+        if let Some(i) = of_sixteen(s, 16 * block, l, o, r) {
+            return Some(i);
+        }
+    }
+    first_row(s, n / 16 * 16, n % 16, l, o, r)
 }
 
 // The kind that the first row for a pair names.
-pub fn row_of(rows: &[u32], l: u16, op: ProductOp, r: u16) -> Link
-    ensures { result ≡ linked (T.rows_of rows.now l op r) }
+#[tactic(auto, using(laws::proofs::First::first_below, crate::proofs::Scanned::row_none))]
+pub fn row_of(rows: &[u32], l: u16, op: ProductOp, r: u16) -> Option<u16>
+    ensures { result ≡ T.rows_of rows.now l op r }
 {
-    let o = op_word(op);
-    let n = rows.len() / 4;
-    let mut i = next_left(rows, l, 0, n);
-    while i < n {
-        if row_for(rows, l, o, r, i) {
-            return index_or(word(rows, 4 * i + 3));
-        }
-        i = next_left(rows, l, i + 1, n);
-    }
-    Link::Nowhere
-}
-
-// The words from `at` on, `len` of them or as many as there are.
-fn part(s: &[u32], at: usize, len: usize) -> &[u32]
-    ensures { result.now ≡ take len (drop at s.now) }
-{
-    let n = s.len();
-    if n <= at {
-        return &s[0..0];
-    }
-    if n - at <= len {
-        return &s[at..n];
-    }
-    &s[at..at + len]
+    let i = found_row(rows, l, op_word(op), r)?;
+    index_or(word(rows, 4 * i + 3))
 }
 
 // The rows that a table holds itself, behind its kinds: as many as its second word says.
+#[tactic(auto, unfolding(rules::specs::Table::own_rows))]
 pub fn own_rows(table: &[u32]) -> &[u32]
     ensures { result.now ≡ T.own_rows table.now }
 {

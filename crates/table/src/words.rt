@@ -2,10 +2,9 @@
 ghost use Rattle.std.specs.Prelude.{◌≡◌, ◌<◌, length};
 ghost use Rattle.dimension.specs.Integer as I;
 ghost use Rattle.rules.specs.Table as T;
-ghost use Rattle.error.specs.Shown.{linked};
+ghost use Rattle.table.specs.Shown.{exponents_of};
 
 use dimension::{Dimensions, Rational};
-use error::Link;
 
 pub fn word(t: &[u32], i: usize) -> u32
     ensures { result ≡ T.word t.now i }
@@ -14,16 +13,17 @@ pub fn word(t: &[u32], i: usize) -> u32
 }
 
 // A word from 65,535 on names no kind; below, it fits 16 bits.
-pub fn index_or(w: u32) -> Link
-    ensures { result ≡ linked (T.index_or w) }
+pub fn index_or(w: u32) -> Option<u16>
+    ensures { result ≡ T.index_or w }
 {
     if w < 65535 {
-        return Link::To(w as u16);
+        return Some(w as u16);
     }
-    Link::Nowhere
+    None
 }
 
 // The exponent of base b: the numerator's bits, then the denominator.
+#[tactic(auto, unfolding(rules::specs::Table::exponent_from))]
 pub fn exponent(t: &[u32], p: u32, b: u32) -> Rational
     ensures { result ≡ T.exponent_from t.now p b }
 {
@@ -38,11 +38,8 @@ pub(crate) fn dims_from(t: &[u32], p: u32) -> Dimensions
     ensures { result ≡ T.dims_from t.now p }
 {
     let mut d = Dimensions::one();
-    let mut b: u32 = 0;
-    while b < 12 {
-        let x = exponent(t, p, b);
-        d.powers[b as usize] = x;
-        b += 1;
+    for b in 0..12u32 {
+        d.powers[b as usize] = exponent(t, p, b);
     }
     d
 }
@@ -53,11 +50,8 @@ pub fn dims_in(w: &[u32]) -> Dimensions
     ensures { result ≡ T.dims_from w.now 0 }
 {
     let mut d = Dimensions::one();
-    let mut b: u32 = 0;
-    while b < 12 {
-        let x = exponent(w, 0, b);
-        d.powers[b as usize] = x;
-        b += 1;
+    for b in 0..12u32 {
+        d.powers[b as usize] = exponent(w, 0, b);
     }
     d
 }
@@ -70,23 +64,19 @@ fn num_word(x: Rational) -> u32
 }
 
 // Twelve exponents, two words each, as a kind has them.
-#[derive(Clone, Copy)]
-pub struct Exponents {
-    pub words: [u32; 24],
-}
+pub type Exponents = [u32; 24];
 
 // The words of d.
 pub fn words_of(d: Dimensions) -> Exponents
-    ensures words_value { T.dims_from result.words 0 ≡ d }
-    ensures words_len { length result.words ≡ 24 }
+    ensures words_value { T.dims_from result 0 ≡ d }
+    ensures words_len { length result ≡ 24 }
+    ensures bits_value { result ≡ exponents_of d }
 {
     let mut w = [0u32; 24];
-    let mut b: usize = 0;
-    while b < 12 {
+    for b in 0..12 {
         let x = d.powers[b];
         w[2 * b] = num_word(x);
         w[2 * b + 1] = x.den;
-        b += 1;
     }
-    Exponents { words: w }
+    w
 }

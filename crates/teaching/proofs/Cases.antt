@@ -2,7 +2,8 @@
 use Prim.Native.Nat.{ℕ}
 use mathlib.Core.Path.{◌≡◌, refl}
 use mathlib.Core.List.{List, [], ◌∷◌, map, zip_with}
-use mathlib.Core.Option.{Option, some, none}
+use Rattle.std.specs.declared.option.Option.{Option}
+use Rattle.std.specs.declared.option.Option.TheVariants.{None, Some}
 use lib.IntN.{pos}
 use Rattle.laws.specs.Out.{given, refused}
 use Rattle.laws.specs.Ranges.{picked}
@@ -34,7 +35,7 @@ abbrev pub two : ℕ → Op → ℕ → Answer ℕ
 two l op r = combine teaching no_rows op l r
 
 abbrev pub to : ℕ → ℕ → ℕ → Answer ℕ
-to k n d = power teaching 8 k (some (F.ratio (pos n) d))
+to k n d = power teaching 8 k (Some (F.ratio (pos n) d))
 
 abbrev pub says : ℕ → Option Dimensions → List ℕ → List ℕ → Reply
 says n d vs ks = no (record { number = n; dims = d; values = vs; twins = ks })
@@ -46,18 +47,18 @@ cases =
     ∷ record { asked = two 4 (multiplied Mul) 2; answered = kind 1 }
     ∷ record { asked = two 1 (multiplied Div) 4; answered = kind 2 }
     ∷ record { asked = two 1 (multiplied Div) 1; answered = kind 0 }
-    ∷ record { asked = two 6 (multiplied Mul) 7; answered = says 44 none (2 ∷ []) (1 ∷ 5 ∷ []) }
+    ∷ record { asked = two 6 (multiplied Mul) 7; answered = says 44 None (2 ∷ []) (1 ∷ 5 ∷ []) }
     ∷ record { asked = two 3 (summed Sub) 3; answered = kind 4 }
-    ∷ record { asked = two 3 (summed Add) 3; answered = says 43 none (2 ∷ 3 ∷ 3 ∷ []) [] }
-    ∷ record { asked = two 4 (summed Sub) 3; answered = says 43 none (3 ∷ 4 ∷ 3 ∷ []) [] }
+    ∷ record { asked = two 3 (summed Add) 3; answered = says 43 None (2 ∷ 3 ∷ 3 ∷ []) [] }
+    ∷ record { asked = two 4 (summed Sub) 3; answered = says 43 None (3 ∷ 4 ∷ 3 ∷ []) [] }
     ∷ record { asked = two 8 (multiplied Dot) 8; answered = kind 6 }
-    ∷ record { asked = two 7 (multiplied Dot) 8; answered = says 24 none (7 ∷ 8 ∷ 0 ∷ 1 ∷ []) [] }
-    ∷ record { asked = two 8 (multiplied Wedge) 8; answered = says 45 (some (bases (pos 2) (pos 0))) (2 ∷ []) [] }
+    ∷ record { asked = two 7 (multiplied Dot) 8; answered = says 24 None (7 ∷ 8 ∷ 0 ∷ 1 ∷ []) [] }
+    ∷ record { asked = two 8 (multiplied Wedge) 8; answered = says 45 (Some (bases (pos 2) (pos 0))) (2 ∷ []) [] }
     ∷ record { asked = to 6 1 2; answered = kind 7 }
     ∷ record { asked = to 8 1 1; answered = kind 8 }
-    ∷ record { asked = two 1 (summed Add) 5; answered = says 42 none (1 ∷ 5 ∷ []) [] }
-    ∷ record { asked = to 7 2147483647 1; answered = says 47 (some (bases (pos 2147483647) (pos 0))) (0 ∷ []) [] }
-    ∷ record { asked = to 6 2147483647 1; answered = says 28 none (6 ∷ []) [] }
+    ∷ record { asked = two 1 (summed Add) 5; answered = says 42 None (1 ∷ 5 ∷ []) [] }
+    ∷ record { asked = to 7 2147483647 1; answered = says 47 (Some (bases (pos 2147483647) (pos 0))) (0 ∷ []) [] }
+    ∷ record { asked = to 6 2147483647 1; answered = says 28 None (6 ∷ []) [] }
     ∷ []
 
 pub answered_so : map (λ (c : Case). reply c.asked) cases ≡ map (λ (c : Case). c.answered) cases

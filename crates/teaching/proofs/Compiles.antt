@@ -3,7 +3,7 @@ use Prim.Native.Nat.{ℕ, zero, suc, ◌+◌, ◌/◌, ◌<◌, ◌≤◌}
 use mathlib.Core.Path.{◌≡◌, refl, sym, ◌∙◌, ap, fun_ext}
 use mathlib.Core.Bool.{Bool, true, false}
 use mathlib.Core.List.{List, [], ◌∷◌, zip_with}
-use mathlib.Core.Option.{some, none}
+use Rattle.std.specs.declared.option.Option.TheVariants.{None, Some}
 use native.Mathlib.Nat.{not-suc-le-zero, le_of_suc-le-suc}
 use native.Mathlib.Omega.{arith}
 use borrow.Author.Tests.{ltb-true, ltb-false}
@@ -26,11 +26,11 @@ use Rattle.teaching.specs.Listed.{Listed, unlisted, listed, teaching, no_rows}
 use Rattle.teaching.specs.Image.{image}
 
 -- ---- 1 to 4
-pub blocks_right : first (sum_wrong image) (length image / 512) ≡ none
+pub blocks_right : first (sum_wrong image) (length image / 512) ≡ None
 unfolding sum_wrong block_sum sum le2 le4 first image
 blocks_right = refl
 
-pub layout_right : first (byte_wrong image) (length image) ≡ none
+pub layout_right : first (byte_wrong image) (length image) ≡ None
 unfolding byte_wrong block_wrong header_wrong kind_wrong row_wrong ids_wrong id_wrong exponent_wrong block_head_wrong filled le2 first image
 layout_right = refl
 
@@ -89,7 +89,7 @@ targets_are = by_list (λ d. d.rate_of) _ listed (refl, (refl, (refl, (refl, (re
 
 rates_are : Are (λ d. d.rate) (kinds_of (catalog_in image)).rate
 unfolding listed kinds_of catalog_in below kind_from id_at link find first blank same tab rate_among le2 image
-rates_are = by_list (λ d. d.rate) _ listed (refl, (refl, (refl, (refl, (refl, (refl, (refl, (refl, (refl, tt))))))))) (λ k h. below_past 9 none (rate_among (catalog_in image) 9) k h)
+rates_are = by_list (λ d. d.rate) _ listed (refl, (refl, (refl, (refl, (refl, (refl, (refl, (refl, (refl, tt))))))))) (λ k h. below_past 9 None (rate_among (catalog_in image) 9) k h)
 
 pub kinds_are : kinds_of (catalog_in image) ≡ teaching
 unfolding kinds_of teaching listed catalog_in below kind_from id_at link find first blank same tab le2 image
@@ -100,8 +100,8 @@ kinds_are i = record {
   difference = differences_are i;
   rate_of = targets_are i;
   rate = rates_are i;
-  dimensionless = some 0;
-  time = some 3;
+  dimensionless = Some 0;
+  time = Some 3;
 }
 
 pub rows_are : rows_of (catalog_in image) ≡ no_rows

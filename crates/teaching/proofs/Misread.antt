@@ -3,7 +3,7 @@ use Prim.Native.Nat.{ℕ}
 use mathlib.Core.Path.{◌≡◌, refl}
 use mathlib.Core.Bool.{Bool, true, false, cond, ◌&&◌}
 use mathlib.Core.List.{[], ◌∷◌, zip_with}
-use mathlib.Core.Option.{some, none}
+use Rattle.std.specs.declared.option.Option.TheVariants.{None, Some}
 use lib.Dec.{eqb}
 use lib.IntN.{pos}
 use Rattle.laws.specs.Options.{found}
@@ -32,9 +32,9 @@ early_power K k e = do
 
 -- one kind, unresolved
 abbrev unresolved : Kinds
-unresolved = kinds_by (unlisted ∷ []) none none
+unresolved = kinds_by (unlisted ∷ []) None None
 
-power_right : power unresolved 8 0 (some F.one) ≡ given 0
+power_right : power unresolved 8 0 (Some F.one) ≡ given 0
 unfolding power scaled F.is_one
 power_right = refl
 

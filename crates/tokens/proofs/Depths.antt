@@ -3,7 +3,7 @@ use Prim.Native.Nat.{ℕ, zero, suc, ◌+◌, ◌-◌}
 use mathlib.Core.Path.{◌≡◌, refl, sym, ap, ◌∙◌}
 use mathlib.Core.Bool.{Bool, true, false, cond}
 use mathlib.Core.List.{List, [], ◌∷◌}
-use mathlib.Core.Option.{some, none}
+use Rattle.std.specs.declared.option.Option.TheVariants.{None, Some}
 use native.Mathlib.Omega.{arith}
 use native.Mathlib.Numerals.{add-one}
 use borrow.Author.Tests.{lt-ltb}
@@ -13,13 +13,11 @@ use Rattle.dimension.specs.Fraction as F
 use Rattle.laws.specs.Out.{given}
 use Rattle.rules.specs.Formula as rule
 use Rattle.rules.specs.Formula.{number, kind, unary, binary, unreadable, exact, inexact, absolute, combined, compared, on, stop, bad, shape, step, walk, malformed_at}
-use Rattle.tokens.specs.Shown.{coded, grown, kept, joined, after, shaped, units}
+use Rattle.tokens.specs.Shown.{coded, grown, kept, joined, after, units}
 use Rattle.tokens.specs.declared.token.Token.{Token}
-use Rattle.tokens.specs.declared.token.Token.TheVariants.{Exact, Unreadable}
-use Rattle.tokens.specs.declared.shape.Shape.{Shape}
-use Rattle.tokens.specs.declared.shape.Shape.TheVariants.{Fine, Bad}
-use Rattle.tokens.specs.declared.shape.Depth.{Depth}
-use Rattle.tokens.specs.declared.shape.Depth.TheVariants.{To, Wrong}
+use Rattle.tokens.specs.declared.token.Token.TheVariants.{Unary, Unreadable}
+use Rattle.tokens.specs.declared.token.Unary.TheVariants.{Exact}
+use Rattle.std.specs.declared.option.Option.{Option}
 
 pub length_units : (d : ℕ) → length (units d) ≡ d
 unfolding units
@@ -32,23 +30,23 @@ units_length [] = refl
 units_length (u ∷ s) = ap (λ (l : List (Unit {0})). tt ∷ l) (units_length s)
 
 -- ---- one step, by the depth alone
-abbrev pub depth_of : rule.Step ⊥ (Unit {0}) → Depth
-depth_of (on s) = To (length s)
+abbrev pub depth_of : rule.Step ⊥ (Unit {0}) → Option ℕ
+depth_of (on s) = Some (length s)
 depth_of (stop x) = absurd x
-depth_of bad = Wrong
+depth_of bad = None
 
 grown_is : (d : ℕ) → grown d ≡ depth_of (rule.with_none (given tt) (units d))
 unfolding grown
 grown_is d = rw (length_units d) (go (ltb d 32))
   where
-    go : (b : Bool) → cond b (To (d + 1)) Wrong ≡ depth_of (cond b (on (tt ∷ units d)) bad)
-    go true = ap To (add-one d ∙ ap suc (sym (length_units d)))
+    go : (b : Bool) → cond b (Some (d + 1)) None ≡ depth_of (cond b (on (tt ∷ units d)) bad)
+    go true = ap Some (add-one d ∙ ap suc (sym (length_units d)))
     go false = refl
 
 kept_is : (d : ℕ) → kept d ≡ depth_of (rule.with_one (λ a. given tt) (units d))
 unfolding kept units
 kept_is zero = refl
-kept_is (suc d) = rw (lt-ltb 0 (suc d) (omega arith)) (ap To (ap suc (sym (length_units d))))
+kept_is (suc d) = rw (lt-ltb 0 (suc d) (omega arith)) (ap Some (ap suc (sym (length_units d))))
 
 joined_is : (d : ℕ) → joined d ≡ depth_of (rule.with_two (λ a b. given tt) (units d))
 unfolding joined units
@@ -56,7 +54,7 @@ joined_is zero = refl
 joined_is (suc zero) = refl
 joined_is (suc (suc d)) =
     let p : suc (suc d) - 1 ≡ suc d = omega arith in
-    rw (lt-ltb 1 (suc (suc d)) (omega arith), p) (ap To (ap suc (sym (length_units d))))
+    rw (lt-ltb 1 (suc (suc d)) (omega arith), p) (ap Some (ap suc (sym (length_units d))))
 
 pub after_is : (t : rule.Token) (d : ℕ) → after (coded t) d ≡ depth_of (step shape t (units d))
 unfolding shape
@@ -64,7 +62,7 @@ after_is number d = grown_is d
 after_is (kind k) d = grown_is d
 after_is (unary (exact e)) d = go (F.within e)
   where
-    go : (b : Bool) → after (cond b (Exact e) Unreadable) d ≡ depth_of (cond b (rule.with_one (λ a. given tt) (units d)) bad)
+    go : (b : Bool) → after (cond b (Unary (Exact e)) Unreadable) d ≡ depth_of (cond b (rule.with_one (λ a. given tt) (units d)) bad)
     go true = kept_is d
     go false = refl
 after_is (unary inexact) d = kept_is d
@@ -74,47 +72,47 @@ after_is (binary compared) d = joined_is d
 after_is unreadable d = refl
 
 -- what the code's depth tells of the step
-step_to : (S : rule.Step ⊥ (Unit {0})) {d : ℕ} → To d ≡ depth_of S → S ≡ on (units d)
+step_to : (S : rule.Step ⊥ (Unit {0})) {d : ℕ} → Some d ≡ depth_of S → S ≡ on (units d)
 step_to (on s) {d} e = let p : length s ≡ d = cc in ap on (sym (units_length s) ∙ ap units p)
 step_to (stop x) e = absurd x
 step_to bad e = cc
 
-step_wrong : (S : rule.Step ⊥ (Unit {0})) → Wrong ≡ depth_of S → S ≡ bad
+step_wrong : (S : rule.Step ⊥ (Unit {0})) → None ≡ depth_of S → S ≡ bad
 step_wrong (on s) e = cc
 step_wrong (stop x) e = absurd x
 step_wrong bad e = refl
 
-module _ (t : rule.Token) (d : ℕ) {v : Token} {r : Depth} where
-  pub goes_on : {e : ℕ} → r ≡ To e → v ≡ coded t → r ≡ after v d → step shape t (units d) ≡ on (units e)
+module _ (t : rule.Token) (d : ℕ) {v : Token} {r : Option ℕ} where
+  pub goes_on : {e : ℕ} → r ≡ Some e → v ≡ coded t → r ≡ after v d → step shape t (units d) ≡ on (units e)
   goes_on p q h = step_to _ (sym p ∙ h ∙ ap (λ (w : Token). after w d) q ∙ after_is t d)
 
-  pub goes_wrong : r ≡ Wrong → v ≡ coded t → r ≡ after v d → step shape t (units d) ≡ bad
+  pub goes_wrong : r ≡ None → v ≡ coded t → r ≡ after v d → step shape t (units d) ≡ bad
   goes_wrong p q h = step_wrong _ (sym p ∙ h ∙ ap (λ (w : Token). after w d) q ∙ after_is t d)
 
 -- ---- the end of the walk
-abbrev ended : rule.Ended ⊥ (Unit {0}) → Shape
-ended (rule.answered u) = Fine
+abbrev ended : rule.Ended ⊥ (Unit {0}) → Option ℕ
+ended (rule.answered u) = None
 ended (rule.stopped p x) = absurd x
-ended (rule.malformed p) = Bad p
+ended (rule.malformed p) = Some p
 
-ended_is : (toks : List rule.Token) → ended (walk shape toks 0 []) ≡ shaped (malformed_at toks)
+ended_is : (toks : List rule.Token) → ended (walk shape toks 0 []) ≡ (malformed_at toks)
 unfolding malformed_at
 ended_is toks = go (walk shape toks 0 [])
   where
-    go : (v : rule.Ended ⊥ (Unit {0})) → ended v ≡ shaped (elim v [ rule.answered u ↦ none | rule.stopped p x ↦ absurd x | rule.malformed p ↦ some p ])
+    go : (v : rule.Ended ⊥ (Unit {0})) → ended v ≡ (elim v [ rule.answered u ↦ None | rule.stopped p x ↦ absurd x | rule.malformed p ↦ Some p ])
     go (rule.answered u) = refl
     go (rule.stopped p x) = absurd x
     go (rule.malformed p) = refl
 
 module _ (toks : List rule.Token) (k : ℕ) where
-  pub shape_bad : rule.malformed k ≡ walk shape toks 0 [] → Bad k ≡ shaped (malformed_at toks)
+  pub shape_bad : rule.malformed k ≡ walk shape toks 0 [] → Some k ≡ (malformed_at toks)
   shape_bad e = ap ended e ∙ ended_is toks
 
-  pub shape_fine : (d : ℕ) → rule.last k (units d) ≡ walk shape toks 0 [] → d ≡ 1 → Fine ≡ shaped (malformed_at toks)
+  pub shape_fine : (d : ℕ) → rule.last k (units d) ≡ walk shape toks 0 [] → d ≡ 1 → None ≡ (malformed_at toks)
   unfolding units
   shape_fine d e p = ap ended (rw p at e) ∙ ended_is toks
 
-  pub shape_many : (d : ℕ) → rule.last k (units d) ≡ walk shape toks 0 [] → (d ≡ 1 → ⊥) → Bad k ≡ shaped (malformed_at toks)
+  pub shape_many : (d : ℕ) → rule.last k (units d) ≡ walk shape toks 0 [] → (d ≡ 1 → ⊥) → Some k ≡ (malformed_at toks)
   unfolding units
   shape_many zero e p = ap ended e ∙ ended_is toks
   shape_many (suc zero) e p = absurd (p refl)

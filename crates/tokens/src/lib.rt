@@ -4,5 +4,5 @@
 mod shape;
 mod token;
 
-pub use shape::{Shape, good_length, malformed};
-pub use token::{Token, token_at, token_count};
+pub use shape::{good_length, malformed};
+pub use token::{Binary, Token, Unary, token_at, token_count};

@@ -2,95 +2,80 @@
 ghost use Rattle.std.specs.Prelude.{◌≡◌};
 ghost use Rattle.rules.specs.Formula.{malformed_at};
 ghost use Rattle.rules.specs.Token.{tokens_in, good_length};
-ghost use Rattle.tokens.specs.Shown.{grown, kept, joined, after, shaped, malformed_in};
+ghost use Rattle.tokens.specs.Shown.{grown, kept, joined, after, malformed_in};
 
 use crate::token::{Token, token_at, token_count};
 
-// No token is out of place, or the first that is; the token count where the end leaves several terms.
-#[derive(Clone, Copy)]
-pub enum Shape {
-    Fine,
-    Bad(usize),
-}
-
-// The depth after a token, or that the token is out of place.
-#[derive(Clone, Copy)]
-enum Depth {
-    To(usize),
-    Wrong,
-}
-
-// A number or kind is one term more; at most 32 are held together.
-fn one_more(depth: usize) -> Depth
+// The depth after a token, none where it is out of place. A number or kind is one term more; at most 32 are held together.
+#[tactic(auto, unfolding(crate::specs::Shown::grown))]
+fn one_more(depth: usize) -> Option<usize>
     ensures { result ≡ grown depth }
 {
     if depth < 32 {
-        return Depth::To(depth + 1);
+        return Some(depth + 1);
     }
-    Depth::Wrong
+    None
 }
 
 // A power and the absolute value take one term and give one.
-fn as_many(depth: usize) -> Depth
+#[tactic(auto, unfolding(crate::specs::Shown::kept))]
+fn as_many(depth: usize) -> Option<usize>
     ensures { result ≡ kept depth }
 {
     if 0 < depth {
-        return Depth::To(depth);
+        return Some(depth);
     }
-    Depth::Wrong
+    None
 }
 
 // An operation and a comparison take two terms and give one.
-fn one_less(depth: usize) -> Depth
+#[tactic(auto, unfolding(crate::specs::Shown::joined))]
+fn one_less(depth: usize) -> Option<usize>
     ensures { result ≡ joined depth }
 {
     if 1 < depth {
-        return Depth::To(depth - 1);
+        return Some(depth - 1);
     }
-    Depth::Wrong
+    None
 }
 
 // One token. What an exponent is doesn't count here: one over the limits is unreadable already.
-fn depth_after(token: Token, depth: usize) -> Depth
+fn depth_after(token: Token, depth: usize) -> Option<usize>
     ensures { result ≡ after token depth }
 {
     match token {
         Token::Number => one_more(depth),
         Token::Kind(_) => one_more(depth),
-        Token::Exact(_) => as_many(depth),
-        Token::Inexact => as_many(depth),
-        Token::Absolute => as_many(depth),
-        Token::Combine(_) => one_less(depth),
-        Token::Compare => one_less(depth),
-        Token::Unreadable => Depth::Wrong,
+        Token::Unary(_) => as_many(depth),
+        Token::Binary(_) => one_less(depth),
+        Token::Unreadable => None,
     }
 }
 
-// The tokens one by one, with the depth before each.
-fn walked(bytes: &[u8]) -> Shape
-    ensures { result ≡ shaped (malformed_at (tokens_in bytes.now)) }
+// The first token that is out of place, or the token count where the end leaves several terms: the tokens one by one, with the depth before each.
+fn walked(bytes: &[u8]) -> Option<usize>
+    ensures { result ≡ malformed_at (tokens_in bytes.now) }
 {
     let n = token_count(bytes);
     let mut depth: usize = 0;
-    let mut k: usize = 0;
-    while k < n {
+    for k in 0..n {
         match depth_after(token_at(bytes, k), depth) {
-            Depth::To(d) => {
+            Some(d) => {
                 depth = d;
             }
-            Depth::Wrong => {
-                return Shape::Bad(k);
+            None => {
+                return Some(k);
             }
         }
-        k += 1;
     }
     if depth == 1 {
-        return Shape::Fine;
+        return None;
     }
-    Shape::Bad(k)
+    Some(n)
 }
 
 // 1 to 128 tokens of 12 bytes each, and no byte left over.
+#[tactic(auto, unfolding(rules::specs::Token::good_length))]
 pub fn good_length(bytes: &[u8]) -> bool
     ensures { result ≡ good_length bytes.now }
 {
@@ -99,11 +84,12 @@ pub fn good_length(bytes: &[u8]) -> bool
 }
 
 // A bad length is told before any token is looked at, so that no more than 128 are.
-pub fn malformed(bytes: &[u8]) -> Shape
-    ensures { result ≡ shaped (malformed_in bytes.now) }
+#[tactic(auto, unfolding(crate::specs::Shown::malformed_in))]
+pub fn malformed(bytes: &[u8]) -> Option<usize>
+    ensures { result ≡ malformed_in bytes.now }
 {
     if good_length(bytes) {
         return walked(bytes);
     }
-    Shape::Bad(0)
+    Some(0)
 }

@@ -7,19 +7,31 @@ ghost use Rattle.rules.specs.Formula.{unary, exact};
 ghost use Rattle.rules.specs.Token.{token_by, token_at};
 ghost use Rattle.tokens.specs.Shown.{coded, unused, token_of, made};
 
-use dimension::{Ratio, Rational, signed32};
+use dimension::{Rational, signed32};
+use error::Op;
 use numbers::{byte_at, u16_at, u32_at};
 
-// One token. An exact power has an exponent in lowest terms within the limits, an operation its code, 2 to 7.
+// What takes one term: a power with an exact exponent, in lowest terms within the limits, or an inexact one, and the absolute value.
+#[derive(Clone, Copy)]
+pub enum Unary {
+    Exact(Rational),
+    Inexact,
+    Absolute,
+}
+
+// What takes two terms.
+#[derive(Clone, Copy)]
+pub enum Binary {
+    Combine(Op),
+    Compare,
+}
+
 #[derive(Clone, Copy)]
 pub enum Token {
     Number,
     Kind(u16),
-    Exact(Rational),
-    Inexact,
-    Absolute,
-    Combine(u8),
-    Compare,
+    Unary(Unary),
+    Binary(Binary),
     Unreadable,
 }
 
@@ -34,12 +46,13 @@ struct Fields {
 }
 
 // An exponent over the limits makes its token unreadable, as it is malformed whatever it is the exponent of.
+#[tactic(auto, using(crate::proofs::Coded::power_is, crate::proofs::Coded::power_over))]
 fn power(num: i32, den: u32) -> Token
     ensures { result ≡ coded (unary (exact (F.lowest num den))) }
 {
     match Rational::new(num, den) {
-        Ratio::Is(e) => Token::Exact(e),
-        Ratio::Over => Token::Unreadable,
+        Some(e) => Token::Unary(Unary::Exact(e)),
+        None => Token::Unreadable,
     }
 }
 
@@ -51,27 +64,28 @@ fn exact_power(num: u32, den: u32) -> Token
 }
 
 // A token by its code, whatever the fields it doesn't use hold. Kinds and operations are most of a formula, so they are asked first.
-// Add, Sub, Mul, Div, Dot and Wedge, 2 to 7, keep their codes; those above know what each does.
+#[tactic(auto, unfolding(rules::specs::Token::token_by))]
 fn token_by(code: u8, index: u16, num: u32, den: u32) -> Token
     ensures { result ≡ coded (token_by code index (F.lowest (I.twos 2147483648 num) den)) }
 {
     if code == 1 {
         return Token::Kind(index);
     }
-    if (2 <= code) & (code <= 7) {
-        return Token::Combine(code);
+    if let Some(op) = Op::from_code(code) {
+        return Token::Binary(Binary::Combine(op));
     }
     match code {
         0 => Token::Number,
         8 => exact_power(num, den),
-        9 => Token::Inexact,
-        10 => Token::Absolute,
-        11 => Token::Compare,
+        9 => Token::Unary(Unary::Inexact),
+        10 => Token::Unary(Unary::Absolute),
+        11 => Token::Binary(Binary::Compare),
         _ => Token::Unreadable,
     }
 }
 
 // Whether the fields that a code doesn't use are zero. The code is asked first, so that only these are looked at.
+#[tactic(auto, unfolding(crate::specs::Shown::unused))]
 fn unused_zero(code: u8, second: u8, index: u16, num: u32, den: u32) -> bool
     ensures { result ≡ unused code second index num den }
 {
@@ -85,6 +99,7 @@ fn unused_zero(code: u8, second: u8, index: u16, num: u32, den: u32) -> bool
 }
 
 // A token from its five fields.
+#[tactic(auto, unfolding(crate::specs::Shown::token_of))]
 fn token_of(code: u8, second: u8, index: u16, num: u32, den: u32) -> Token
     ensures { result ≡ coded (token_of code second index num den) }
 {
@@ -109,6 +124,7 @@ fn u16_of(low: u8, high: u8) -> u16
 }
 
 // The 16-bit number at a place whose two bytes are there.
+#[tactic(auto, unfolding(rules::specs::Bytes::le2))]
 fn u16_within(bytes: &[u8], p: usize) -> u16
     requires { p + 2 ≤ length bytes.now }
     ensures { result ≡ le2 bytes.now p }
@@ -117,6 +133,7 @@ fn u16_within(bytes: &[u8], p: usize) -> u16
 }
 
 // The 32-bit number at a place whose four bytes are there.
+#[tactic(auto, unfolding(rules::specs::Bytes::le4))]
 fn u32_within(bytes: &[u8], p: usize) -> u32
     requires { p + 4 ≤ length bytes.now }
     ensures { result ≡ le4 bytes.now p }
@@ -125,6 +142,7 @@ fn u32_within(bytes: &[u8], p: usize) -> u32
 }
 
 // The fields of token k where its twelve bytes are all there, so that no place needs a test and each field is read at once.
+#[tactic(auto, using(crate::proofs::Listed::token_fields), unfolding(crate::specs::Shown::made))]
 fn fields_within(bytes: &[u8], k: usize) -> Fields
     requires { 12 * k + 12 ≤ length bytes.now }
     ensures { made result ≡ token_at bytes.now k }
@@ -140,6 +158,7 @@ fn fields_within(bytes: &[u8], k: usize) -> Fields
 }
 
 // The fields of token k, whatever lies past the end. Far past it there are only zeros; asking so first keeps 12 k small.
+#[tactic(auto, using(crate::proofs::Listed::token_fields), unfolding(crate::specs::Shown::made))]
 fn fields_past(bytes: &[u8], k: usize) -> Fields
     ensures { made result ≡ token_at bytes.now k }
 {
@@ -173,6 +192,7 @@ fn fields_at(bytes: &[u8], k: usize) -> Fields
 }
 
 // Token k.
+#[tactic(auto, unfolding(crate::specs::Shown::made))]
 pub fn token_at(bytes: &[u8], k: usize) -> Token
     ensures { result ≡ coded (token_at bytes.now k) }
 {

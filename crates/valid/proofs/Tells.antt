@@ -1,7 +1,8 @@
 -- What is known of words that are a table, and of rows over it: every index that is read is a kind's, every grade is below 4, and every resolved
 -- kind has dimensions that a catalog can declare. Assumes nothing.
 use Rattle.std.proofs.Common.{◌≡◌, ℕ, ◌+◌, ◌*◌, ◌/◌, ◌%◌, ◌<◌, ◌≤◌, Bool, true, false, cond, ◌&&◌, ◌||◌, eqb, ltb, leb, List, [], length, sym, refl, true≢false, arith, ltb-true, eqb-true, leb-true}
-use mathlib.Core.Option.{Option, some, none}
+use Rattle.std.specs.declared.option.Option.{Option}
+use Rattle.std.specs.declared.option.Option.TheVariants.{None, Some}
 use Rattle.laws.specs.Options.{found}
 use Rattle.laws.specs.Ranges.{first, all, below}
 use Rattle.laws.proofs.Cases.{and_left, and_right}
@@ -66,33 +67,33 @@ module _ (t : List ℕ) where
 
 -- ---- an index that is read is a kind's
 module _ (t : List ℕ) where
-  link_told : (w : ℕ) {k : ℕ} → link_fine t w ≡ true → index_or w ≡ some k → k < word t 0
+  link_told : (w : ℕ) {k : ℕ} → link_fine t w ≡ true → index_or w ≡ Some k → k < word t 0
   link_told w {k} e p = go (ltb w 65535) refl (ltb w (word t 0)) refl
     where
       go : (a : Bool) → ltb w 65535 ≡ a → (b : Bool) → ltb w (word t 0) ≡ b → k < word t 0
       go true x true y =
-          let z : some w ≡ some k = rw x at p in
+          let z : Some w ≡ Some k = rw x at p in
           let q : w ≡ k = cc in
           rw (← q) (ltb-true w (word t 0) y)
       go true x false y =
           let z : eqb w 65535 ≡ true = rw y at e in
           absurd (omega (arith, ltb-true w 65535 x, eqb-true w 65535 z))
       go false x b y =
-          let z : none ≡ some k = rw x at p in
+          let z : None ≡ Some k = rw x at p in
           let q : true ≡ false = cc in
           absurd (true≢false q)
 
   -- the same of a kind's word, read under the count
-  under : (f k : ℕ) {d : ℕ} → is_table t ≡ true → ((k : ℕ) → k < word t 0 → link_fine t (word t (kind_place k + f)) ≡ true) → below (kinds_in t) none (λ k. index_or (word t (kind_place k + f))) k ≡ some d → d < word t 0
+  under : (f k : ℕ) {d : ℕ} → is_table t ≡ true → ((k : ℕ) → k < word t 0 → link_fine t (word t (kind_place k + f)) ≡ true) → below (kinds_in t) None (λ k. index_or (word t (kind_place k + f))) k ≡ Some d → d < word t 0
   unfolding below
   under f k {d} e h p = go (ltb k (kinds_in t)) refl
     where
       go : (b : Bool) → ltb k (kinds_in t) ≡ b → d < word t 0
       go true x =
-          let z : index_or (word t (kind_place k + f)) ≡ some d = rw x at p in
+          let z : index_or (word t (kind_place k + f)) ≡ Some d = rw x at p in
           link_told (word t (kind_place k + f)) (h k (omega (arith, ltb-true k (kinds_in t) x))) z
       go false x =
-          let z : none ≡ some d = rw x at p in
+          let z : None ≡ Some d = rw x at p in
           let q : true ≡ false = cc in
           absurd (true≢false q)
 
@@ -147,47 +148,47 @@ module _ (t : List ℕ) where
       go true x = rw x (ltb-true (word t (kind_place k + 25)) 4 (marks_parts t k e (omega (arith, ltb-true k (kinds_in t) x))).0)
       go false x = rw x (omega arith)
 
-  pub table_dims : (k : ℕ) {d : Dimensions} → is_table t ≡ true → (kinds_of t).dims k ≡ some d → D.Declared d
+  pub table_dims : (k : ℕ) {d : Dimensions} → is_table t ≡ true → (kinds_of t).dims k ≡ Some d → D.Declared d
   unfolding kinds_of below
   table_dims k {d} e p = go (ltb k (kinds_in t)) refl (eqb (word t (kind_place k + 24)) 1) refl
     where
-      clash : none ≡ some d → D.Declared d
+      clash : None ≡ Some d → D.Declared d
       clash z = let q : true ≡ false = cc in absurd (true≢false q)
 
       go : (a : Bool) → ltb k (kinds_in t) ≡ a → (b : Bool) → eqb (word t (kind_place k + 24)) 1 ≡ b → D.Declared d
       go true x true y =
-          let z : some (dims_from t (kind_place k)) ≡ some d = rw (x, y) at p in
+          let z : Some (dims_from t (kind_place k)) ≡ Some d = rw (x, y) at p in
           let q : dims_from t (kind_place k) ≡ d = cc in
           rw (← q) (dims_declared t k e (omega (arith, ltb-true k (kinds_in t) x)) y)
-      go true x false y = let z : none ≡ some d = rw (x, y) at p in clash z
-      go false x b y = let z : none ≡ some d = rw x at p in clash z
+      go true x false y = let z : None ≡ Some d = rw (x, y) at p in clash z
+      go false x b y = let z : None ≡ Some d = rw x at p in clash z
 
-  pub table_difference : (k : ℕ) {d : ℕ} → is_table t ≡ true → (kinds_of t).difference k ≡ some d → d < (kinds_of t).count
+  pub table_difference : (k : ℕ) {d : ℕ} → is_table t ≡ true → (kinds_of t).difference k ≡ Some d → d < (kinds_of t).count
   unfolding kinds_of
   table_difference k e p = rw (table_count t e) (under t 27 k e (λ m h. difference_told t m e h) p)
 
-  pub table_target : (k : ℕ) {d : ℕ} → is_table t ≡ true → (kinds_of t).rate_of k ≡ some d → d < (kinds_of t).count
+  pub table_target : (k : ℕ) {d : ℕ} → is_table t ≡ true → (kinds_of t).rate_of k ≡ Some d → d < (kinds_of t).count
   unfolding kinds_of
   table_target k e p = rw (table_count t e) (under t 28 k e (λ m h. (marks_parts t m e h).2) p)
 
-  pub table_rate : (k : ℕ) {d : ℕ} → is_table t ≡ true → (kinds_of t).rate k ≡ some d → d < (kinds_of t).count
+  pub table_rate : (k : ℕ) {d : ℕ} → is_table t ≡ true → (kinds_of t).rate k ≡ Some d → d < (kinds_of t).count
   unfolding kinds_of
   table_rate k e p = rw (table_count t e) (under t 29 k e (λ m h. (marks_parts t m e h).3) p)
 
-  pub table_dimensionless : {d : ℕ} → is_table t ≡ true → (kinds_of t).dimensionless ≡ some d → d < (kinds_of t).count
+  pub table_dimensionless : {d : ℕ} → is_table t ≡ true → (kinds_of t).dimensionless ≡ Some d → d < (kinds_of t).count
   unfolding kinds_of
   table_dimensionless e p = rw (table_count t e) (link_told t (word t 2) (head_parts t e).2 p)
 
-  pub table_time : {d : ℕ} → is_table t ≡ true → (kinds_of t).time ≡ some d → d < (kinds_of t).count
+  pub table_time : {d : ℕ} → is_table t ≡ true → (kinds_of t).time ≡ Some d → d < (kinds_of t).count
   unfolding kinds_of
   table_time e p = rw (table_count t e) (link_told t (word t 3) (head_parts t e).3 p)
 
-  pub table_duration : {d : ℕ} → is_table t ≡ true → duration (kinds_of t) ≡ some d → d < (kinds_of t).count
+  pub table_duration : {d : ℕ} → is_table t ≡ true → duration (kinds_of t) ≡ Some d → d < (kinds_of t).count
   table_duration {d} e p = go (kinds_of t).time p
     where
-      go : (o : Option ℕ) → found o (kinds_of t).difference none ≡ some d → d < (kinds_of t).count
-      go (some k) q = table_difference k e q
-      go none q = let z : true ≡ false = cc in absurd (true≢false z)
+      go : (o : Option ℕ) → found o (kinds_of t).difference None ≡ Some d → d < (kinds_of t).count
+      go (Some k) q = table_difference k e q
+      go None q = let z : true ≡ false = cc in absurd (true≢false z)
 
 -- ---- a row over a table names a kind of it
 module _ (t s : List ℕ) where
@@ -198,29 +199,29 @@ module _ (t s : List ℕ) where
       ltb-true (word s (4 * i + 3)) (word t 0)
       (four (is_kind t (word s (4 * i))) (ltb (word s (4 * i + 1)) 4) (is_kind t (word s (4 * i + 2))) (is_kind t (word s (4 * i + 3))) z).3
 
-  pub rows_kind : (l : ℕ) (op : ProductOp) (r : ℕ) {k : ℕ} → is_table t ≡ true → are_rows t s ≡ true → rows_of s l op r ≡ some k → k < (kinds_of t).count
+  pub rows_kind : (l : ℕ) (op : ProductOp) (r : ℕ) {k : ℕ} → is_table t ≡ true → are_rows t s ≡ true → rows_of s l op r ≡ Some k → k < (kinds_of t).count
   unfolding rows_of
   rows_kind l op r {k} e a p = rw (table_count t e) (go (first (is_row s l op r) (length s / 4)) refl)
     where
-      named : (i : ℕ) → i < length s / 4 → index_or (word s (4 * i + 3)) ≡ some k → k < word t 0
+      named : (i : ℕ) → i < length s / 4 → index_or (word s (4 * i + 3)) ≡ Some k → k < word t 0
       named i h q = step (ltb (word s (4 * i + 3)) 65535) refl
         where
           step : (b : Bool) → ltb (word s (4 * i + 3)) 65535 ≡ b → k < word t 0
           step true x =
-              let z : some (word s (4 * i + 3)) ≡ some k = rw x at q in
+              let z : Some (word s (4 * i + 3)) ≡ Some k = rw x at q in
               let y : word s (4 * i + 3) ≡ k = cc in
               rw (← y) (row_told i a h)
           step false x =
-              let z : none ≡ some k = rw x at q in
+              let z : None ≡ Some k = rw x at q in
               let y : true ≡ false = cc in
               absurd (true≢false y)
 
       go : (o : Option ℕ) → first (is_row s l op r) (length s / 4) ≡ o → k < word t 0
-      go (some i) x =
-          let z : index_or (word s (4 * i + 3)) ≡ some k = rw x at p in
+      go (Some i) x =
+          let z : index_or (word s (4 * i + 3)) ≡ Some k = rw x at p in
           named i (first_below (is_row s l op r) (length s / 4) x) z
-      go none x =
-          let z : none ≡ some k = rw x at p in
+      go None x =
+          let z : None ≡ Some k = rw x at p in
           let y : true ≡ false = cc in
           absurd (true≢false y)
 

@@ -20,12 +20,10 @@ pub(crate) fn exponents_fine(t: &[u32], p: usize) -> bool
     if whole_from(t, p) {
         return true;
     }
-    let mut b: u32 = 0;
-    while b < 12 {
+    for b in 0..12 {
         if !exponent(t, p as u32, b).declared() {
             return false;
         }
-        b += 1;
     }
     true
 }
@@ -54,14 +52,12 @@ pub(crate) fn all_whole(t: &[u32], n: usize) -> bool
     let mut b: u32 = 0;
     let mut c: u32 = 0;
     let mut d: u32 = 0;
-    let mut k: usize = 0;
-    while k < n {
+    for k in 0..n {
         let p = KINDS + KIND * k;
         a = a | fourths(t, p, 32768);
         b = b | fourths(t, p + 1, 4294967295);
         c = c | fourths(t, p + 2, 32768);
         d = d | fourths(t, p + 3, 4294967295);
-        k += 1;
     }
     ((a | c) < 65536) & ((b | d) == 0)
 }

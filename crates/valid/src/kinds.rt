@@ -8,6 +8,7 @@ use crate::marks::{all_marks, link_fine, marks_fine, marks_within};
 use table::{KIND, KINDS, word};
 
 // The counts, and the dimensionless and the time kind.
+#[tactic(auto, unfolding(rules::specs::Table::head_fine))]
 pub(crate) fn head_fine(t: &[u32]) -> bool
     ensures { result ≡ T.head_fine t.now }
 {
@@ -15,6 +16,7 @@ pub(crate) fn head_fine(t: &[u32]) -> bool
     (n <= 240) & (word(t, 1) <= 400) & link_fine(word(t, 2), n) & link_fine(word(t, 3), n)
 }
 
+#[tactic(auto, using(crate::proofs::Ands::ands), unfolding(rules::specs::Table::kind_fine))]
 fn kind_fine(t: &[u32], k: usize) -> bool
     requires { k < 240 }
     ensures { result ≡ T.kind_fine t.now k }
@@ -37,12 +39,10 @@ fn each_fine(t: &[u32], n: usize) -> bool
     requires { n ≤ 240 }
     ensures { result ≡ all (T.kind_fine t.now) n }
 {
-    let mut k: usize = 0;
-    while k < n {
+    for k in 0..n {
         if !kind_fine(t, k) {
             return false;
         }
-        k += 1;
     }
     true
 }

@@ -15,6 +15,7 @@ use crate::rows::rows_fine;
 use table::{ROWS, word};
 
 // Whether the words are a table. The counts come first, so that no more is read than a table has.
+#[tactic(auto, using(crate::proofs::Tables::tables, crate::proofs::Tables::few_told))]
 pub fn is_table(t: &[u32]) -> bool
     ensures { result ≡ T.is_table t.now }
 {
@@ -28,6 +29,7 @@ pub fn is_table(t: &[u32]) -> bool
 }
 
 // Whether lent words are rows over the table's kinds.
+#[tactic(auto, using(crate::proofs::Tables::lent_short, crate::proofs::Tables::lent_rows))]
 pub fn are_rows(t: &[u32], rows: &[u32]) -> bool
     ensures { result ≡ T.are_rows t.now rows.now }
 {

@@ -24,6 +24,7 @@ fn role_fine(role: u32, difference: u32, n: u32) -> bool
 }
 
 // Flag, grade, role and links of the kind whose words begin at p.
+#[tactic(auto, unfolding(rules::specs::Table::marks_fine))]
 pub(crate) fn marks_fine(t: &[u32], p: usize) -> bool
     requires { p < 4294967296 }
     ensures { result ≡ T.marks_fine t.now p }
@@ -50,6 +51,7 @@ fn link_within(t: &[u32], q: usize) -> bool
 }
 
 // The role, and the difference that goes with it.
+#[tactic(auto, using(crate::proofs::Marked::roles))]
 fn role_within(t: &[u32], p: usize) -> bool
     requires { p + 32 ≤ length t.now }
     ensures { result ≡ role_fine t.now p }
@@ -61,6 +63,7 @@ fn role_within(t: &[u32], p: usize) -> bool
 }
 
 // The marks of a kind whose words are all there, so that no place needs a test. Each is read only once those before it are fine.
+#[tactic(auto, using(crate::proofs::Marked::marked))]
 pub(crate) fn marks_within(t: &[u32], p: usize) -> bool
     requires { p + 32 ≤ length t.now }
     ensures { result ≡ T.marks_fine t.now p }
@@ -85,12 +88,10 @@ pub(crate) fn all_marks(t: &[u32], n: usize) -> bool
     requires { 16 + 32 * n ≤ length t.now }
     ensures { result ≡ all (λ k. T.marks_fine t.now (T.kind_place k)) n }
 {
-    let mut k: usize = 0;
-    while k < n {
+    for k in 0..n {
         if !marks_within(t, KINDS + KIND * k) {
             return false;
         }
-        k += 1;
     }
     true
 }

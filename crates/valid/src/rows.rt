@@ -6,6 +6,7 @@ ghost use Rattle.rules.specs.Table as T;
 use table::word;
 
 // The row whose words begin at p of s, over the kinds of t.
+#[tactic(auto, unfolding(rules::specs::Table::row_fine))]
 fn row_fine(t: &[u32], s: &[u32], p: usize) -> bool
     requires { p < 9223372036854775808 }
     ensures { result ≡ T.row_fine t.now s.now p }
@@ -25,14 +26,12 @@ fn rows_within(t: &[u32], s: &[u32], p: usize, m: usize) -> bool
     let mut ops = true;
     let mut rights = true;
     let mut results = true;
-    let mut i: usize = 0;
-    while i < m {
+    for i in 0..m {
         let q = p + 4 * i;
         lefts = lefts & (s[q] < n);
         ops = ops & (s[q + 1] < 4);
         rights = rights & (s[q + 2] < n);
         results = results & (s[q + 3] < n);
-        i += 1;
     }
     lefts & ops & rights & results
 }
@@ -45,12 +44,10 @@ pub(crate) fn rows_fine(t: &[u32], s: &[u32], p: usize, m: usize) -> bool
     if p + 4 * m <= s.len() {
         return rows_within(t, s, p, m);
     }
-    let mut i: usize = 0;
-    while i < m {
+    for i in 0..m {
         if !row_fine(t, s, p + 4 * i) {
             return false;
         }
-        i += 1;
     }
     true
 }

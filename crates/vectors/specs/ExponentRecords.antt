@@ -3,24 +3,23 @@ use Rattle.std.specs.Prelude.{ℕ, cond, List, ltb, eqb, drop}
 use Rattle.dimension.specs.Fraction as F
 use Rattle.dimension.specs.Dimension as D
 use Rattle.dimension.specs.declared.rational.Rational.{Rational}
-use Rattle.dimension.specs.declared.rational.Ratio.{Ratio}
-use Rattle.dimension.specs.declared.rational.Ratio.TheVariants.{Is}
+use Rattle.std.specs.declared.option.Option.{Option}
+use Rattle.std.specs.declared.option.Option.TheVariants.{Some}
 use Rattle.dimension.specs.declared.dimensions.Dimensions.{Dimensions}
-use Rattle.dimension.specs.declared.dimensions.Outcome.{Outcome}
 use Rattle.rules.specs.Bytes.{le4}
 use Rattle.stored.specs.Exponents.{exponent, dimensions}
 
 -- the operations 0 to 3, and 4 and 5
-unfoldable pub of_exponents : ℕ → Rational → Rational → Ratio
+unfoldable pub of_exponents : ℕ → Rational → Rational → Option Rational
 of_exponents n a b =
     cond (eqb n 0) (F.answer a.num a.den) (cond (eqb n 1) (F.sum a b) (cond (eqb n 2) (F.difference a b) (F.product a b)))
 
-unfoldable pub of_dimensions : ℕ → Dimensions → Dimensions → Outcome
+unfoldable pub of_dimensions : ℕ → Dimensions → Dimensions → Option Dimensions
 of_dimensions n a b = cond (eqb n 4) (D.product a b) (D.quotient a b)
 
 pub data Answer : Type 0 where
-  one : Ratio → Answer
-  twelve : Outcome → Answer
+  one : Option Rational → Answer
+  twelve : Option Dimensions → Answer
 
 -- an operation's answer by its number: of exponents, of dimensions, and of dimensions and an exponent
 unfoldable pub chosen : List ℕ → Answer → Answer → Answer → Answer
@@ -38,6 +37,6 @@ answer s =
 unfoldable pub stored : List ℕ → Answer
 stored s =
     chosen s
-    (one (Is (exponent (drop 20 s))))
-    (twelve (D.fine (dimensions (drop 196 s))))
-    (twelve (D.fine (dimensions (drop 108 s))))
+    (one (Some (exponent (drop 20 s))))
+    (twelve (Some (dimensions (drop 196 s))))
+    (twelve (Some (dimensions (drop 108 s))))

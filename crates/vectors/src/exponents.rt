@@ -1,39 +1,39 @@
 // The group `exponents`: fractions reduced, added, subtracted and multiplied, and the products, quotients and powers of dimensions. A record is its
 // operation in four bytes, and then left, right and result: exponents of 8 bytes, dimensions of 96.
-ghost use Rattle.std.specs.Prelude.{true, ◌≡◌, ◌≤◌, length};
-ghost use Rattle.dimension.specs.Dimension as D;
+ghost use Rattle.std.specs.Prelude.{true, ◌≡◌, ◌≤◌};
 ghost use Rattle.vectors.specs.ExponentRecords as R;
 
-use dimension::{Dimensions, Outcome, Ratio, Rational};
+use dimension::{Dimensions, Rational};
 use numbers::u32_at;
+use slices::{after, front};
 use std::io;
-use stored::{Tally, UNREADABLE, after, dimensions, exponent};
+use stored::{Tally, UNREADABLE, dimensions, exponent};
 
 const GROUP: u32 = 1;
 
 // Whether an answer is the stored one, numerator and denominator.
-fn is(found: Ratio, stored: Rational) -> bool
-    ensures { result ≡ true → found ≡ Ratio.Is stored }
+fn is(found: Option<Rational>, stored: Rational) -> bool
+    ensures { result ≡ true → found ≡ Some stored }
 {
     match found {
-        Ratio::Is(r) => r.equals(stored),
-        Ratio::Over => false,
+        Some(r) => r.equals(stored),
+        None => false,
     }
 }
 
 // Whether an answer is the stored one in all twelve bases.
-fn are(found: Outcome, stored: Dimensions) -> bool
-    ensures { result ≡ true → found ≡ D.fine stored }
+fn are(found: Option<Dimensions>, stored: Dimensions) -> bool
+    ensures { result ≡ true → found ≡ Some stored }
 {
-    if found.over {
-        return false;
+    match found {
+        Some(d) => d.equals(stored),
+        None => false,
     }
-    let d = found.value;
-    d.equals(stored)
 }
 
 // The operations 0 to 3. The first has no right.
-fn of_exponents(operation: u32, left: Rational, right: Rational) -> Ratio
+#[tactic(auto, unfolding(crate::specs::ExponentRecords::of_exponents))]
+fn of_exponents(operation: u32, left: Rational, right: Rational) -> Option<Rational>
     ensures { result ≡ R.of_exponents operation left right }
 {
     if operation == 0 {
@@ -49,7 +49,8 @@ fn of_exponents(operation: u32, left: Rational, right: Rational) -> Ratio
 }
 
 // The operations 4 and 5.
-fn of_dimensions(operation: u32, left: Dimensions, right: Dimensions) -> Outcome
+#[tactic(auto, unfolding(crate::specs::ExponentRecords::of_dimensions))]
+fn of_dimensions(operation: u32, left: Dimensions, right: Dimensions) -> Option<Dimensions>
     ensures { result ≡ R.of_dimensions operation left right }
 {
     if operation == 4 {
@@ -59,6 +60,7 @@ fn of_dimensions(operation: u32, left: Dimensions, right: Dimensions) -> Outcome
 }
 
 // Whether the library answers the first record as the Rust did.
+#[tactic(auto, using(crate::proofs::Agreeing::agreeing))]
 fn agrees(s: &[u8]) -> bool
     ensures { result ≡ true → R.answer s.now ≡ R.stored s.now }
 {
@@ -79,43 +81,37 @@ fn agrees(s: &[u8]) -> bool
 }
 
 // The bytes of a record; none for an operation that isn't there.
-fn size(operation: u32) -> usize {
+fn size(operation: u32) -> Option<usize> {
     match operation {
-        0..=3 => 28,
-        4 | 5 => 292,
-        6 => 204,
-        _ => 0,
+        0..=3 => Some(28),
+        4 | 5 => Some(292),
+        6 => Some(204),
+        _ => None,
     }
 }
 
-// Where the record at `at` ends; `at` itself if there is no whole record.
-fn past(s: &[u8], at: usize) -> usize
-    requires { at ≤ length s.now }
-    ensures { result ≤ length s.now }
-{
-    let n = size(u32_at(s, at));
-    if n <= s.len() - at { at + n } else { at }
+// What follows the record that s begins with; none if there is no whole record.
+fn past(s: &[u8]) -> Option<&[u8]> {
+    let n = size(u32_at(s, 0))?;
+    s.get(n..)
 }
 
 // How many of the records agree; none if they don't end with the file.
 fn agreed(s: &[u8], records: u32) -> u32
     ensures { result ≤ records }
 {
-    let mut at: usize = 0;
-    let mut left = records;
+    let mut rest = s;
     let mut count: u32 = 0;
-    while 0 < left {
-        let next = past(s, at);
-        if next == at {
+    for _i in 0..records {
+        let Some(next) = past(rest) else {
             return 0;
-        }
-        if agrees(after(s, at)) {
+        };
+        if agrees(rest) {
             count += 1;
         }
-        at = next;
-        left -= 1;
+        rest = next;
     }
-    if at == s.len() { count } else { 0 }
+    if rest.is_empty() { count } else { 0 }
 }
 
 // A record is a request, so the header's two counts are one number.
@@ -134,7 +130,7 @@ fn counted(s: &[u8]) -> Tally {
 }
 
 pub(crate) fn replayed(rt: &HostRuntime) -> io::Result<Tally> {
-    let mut buffer = crate::tally::room();
-    let n = crate::tally::read(rt, "exponents.bin", &mut buffer)?;
-    Ok(counted(&buffer[..n]))
+    let mut buffer = stored::room();
+    let n = stored::read(rt, "exponents.bin", &mut buffer)?;
+    Ok(counted(front(&buffer, n)))
 }

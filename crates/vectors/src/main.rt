@@ -4,12 +4,12 @@
 
 mod exponents;
 mod images;
-mod tally;
 
 use std::io;
-use tally::tell;
 
 fn main(rt: HostRuntime) -> io::Result<()> {
-    tell(&rt, "exponents", exponents::replayed(&rt)?)?;
-    tell(&rt, "images", images::replayed(&rt)?)
+    let tally = exponents::replayed(&rt)?;
+    println!(rt; "exponents {tally}")?;
+    let tally = images::replayed(&rt)?;
+    println!(rt; "images {tally}")
 }

@@ -1,20 +1,20 @@
 -- The table in two parts, its front and its rows. Assumes nothing.
 use Prim.Native.Nat.{ℕ, ◌+◌, ◌*◌, ◌-◌, ◌/◌, ◌%◌, ◌<◌, ◌≤◌}
 use mathlib.Core.Path.{◌≡◌, refl, sym, ◌∙◌, ap}
-use mathlib.Core.Bool.{Bool, true, false, ◌&&◌}
+use mathlib.Core.Bool.{true}
 use mathlib.Core.List.{List, [], ◌∷◌, ◌++◌, append_assoc, append-nil}
 use native.Mathlib.Omega.{arith}
-use borrow.Author.Tests.{leb-true, le-leb}
-use lib.Dec.{leb}
+use borrow.Author.Tests.{le-leb}
 use lib.ListN.{length, take, drop, replicate, length-append, length-drop, drop_of_length-le}
+use borrow.Rule.Slice.PartMut.{put_mid}
+use Rattle.std.proofs.lemmas.Slice.{put_mid-paste}
 use lib.Seq.{paste, take_all, take_at, length-take-le, drop-drop, drop-append-add}
 use Rattle.laws.specs.Ranges.{tab, overlay}
-use Rattle.laws.proofs.Cases.{and_left, and_right}
 use Rattle.laws.proofs.Tab.{length_tab, tab_same}
 use Rattle.rules.specs.Layout.{kind_count, row_count}
 use Rattle.rules.specs.Catalog.{Catalog, id_at, catalog_in, link}
 use Rattle.rules.specs.Table.{in_force, index_word, head_words, table_word}
-use Rattle.written.specs.Shown.{kinds_word, front_in, front_after, fits_in, rows_in, rows_for, links_in, links_for}
+use Rattle.written.specs.Shown.{kinds_word, front_in, fits_in}
 use Rattle.written.proofs.Places.{word_of_kind}
 use Rattle.written.proofs.Kinded.{tab_append, count_in}
 use Rattle.written.proofs.Pasted.{paste_over}
@@ -56,17 +56,17 @@ put_tail t q a {v} h e =
     rw (e, take_all (length t - a) (drop a t) l, drop_of_length-le (drop a t) l, append-nil, length-append (take a t) q, m, drop-drop (length q) a t, append_assoc)
 
 -- ---- the front of an image put over that of t: u has its head, and the kinds go to the part of u behind it
-module _ (s t : List ℕ) {head first kinds u : List ℕ} (used : ℕ) (h : kind_count s ≤ 240) (e : used ≡ length (in_force (catalog_in s)))
+module _ (s t : List ℕ) {head first kinds u x y : List ℕ} (used : ℕ) (h : kind_count s ≤ 240) (e : used ≡ length (in_force (catalog_in s)))
     (i : head ≡ kind_count s ∷ used / 4 ∷ index_word (link (catalog_in s) (id_at s 12)) ∷ index_word (link (catalog_in s) (id_at s 44)) ∷ [])
-    (f : first ≡ paste (replicate 16 0) 0 head 4) (p : u ≡ paste t 0 first 16) (k : kinds ≡ overlay (tab (kinds_word (catalog_in s)) (32 * kind_count s)) (take (length u - 16) (drop 16 u))) where
+    (f : first ≡ put_mid 0 4 (replicate 16 0) x) (m : x ≡ head) (p : u ≡ put_mid 0 16 t y) (n : y ≡ first) (k : kinds ≡ overlay (tab (kinds_word (catalog_in s)) (32 * kind_count s)) (take (length u - 16) (drop 16 u))) where
   first_is : first ≡ tab (table_word (catalog_in s)) 16
-  first_is = first_told (catalog_in s) (head_told s used e i) f
+  first_is = first_told (catalog_in s) (head_told s used e i) (f ∙ put_mid-paste 0 4 (replicate 16 0) x head 4 m refl (sym (ap length i)))
 
   first_long : length first ≡ 16
   first_long = ap length first_is ∙ length_tab (table_word (catalog_in s)) 16
 
   headed : u ≡ overlay first t
-  headed = p ∙ paste_over [] t first 0 16 refl (omega (arith, first_long)) ∙ ap (λ (l : List ℕ). overlay l t) (take_all 16 first (omega (arith, first_long)))
+  headed = p ∙ put_mid-paste 0 16 t y first 16 n refl (sym first_long) ∙ paste_over [] t first 0 16 refl (omega (arith, first_long)) ∙ ap (λ (l : List ℕ). overlay l t) (take_all 16 first (omega (arith, first_long)))
 
   headed_front : take 16 u ≡ first
   headed_front = ap (take 16) headed ∙ take_at first (drop (length first) t) 16 first_long
@@ -80,30 +80,7 @@ module _ (s t : List ℕ) {head first kinds u : List ℕ} (used : ℕ) (h : kind
       ∙ rw (headed_front, headed) (over_over first (tab (kinds_word (catalog_in s)) (32 * kind_count s)) t)
       ∙ ap (λ (l : List ℕ). overlay l t) (ap (λ (l : List ℕ). l ++ tab (kinds_word (catalog_in s)) (32 * kind_count s)) first_is ∙ sym (front_split s h))
 
-pub rows_made : (s : List ℕ) {v : List ℕ} → v ≡ overlay (in_force (catalog_in s)) (replicate 1600 0) → v ≡ rows_in s
-unfolding rows_in
-rows_made s e = e
-
 -- ---- the limits, and room for the front in n words
 pub fits_told : (s : List ℕ) (n : ℕ) → kind_count s ≤ 240 → row_count s ≤ 200 → 16 + 32 * kind_count s ≤ n → fits_in s n ≡ true
 unfolding fits_in
 fits_told s n h l m = rw (le-leb (kind_count s) 240 h, le-leb (row_count s) 200 l, le-leb (16 + 32 * kind_count s) n m)
-
-module _ (s : List ℕ) (n : ℕ) {b : Bool} (e : b ≡ fits_in s n) where
-  pub limits_kept : b ≡ true → (kind_count s ≤ 240) × ((row_count s ≤ 200) × (16 + 32 * kind_count s ≤ n))
-  unfolding fits_in
-  limits_kept t =
-      let f : ((leb (kind_count s) 240 && leb (row_count s) 200) && leb (16 + 32 * kind_count s) n) ≡ true = sym e ∙ t in
-      let g = and_left (leb (kind_count s) 240 && leb (row_count s) 200) (leb (16 + 32 * kind_count s) n) f in (
-        leb-true (kind_count s) 240 (and_left (leb (kind_count s) 240) (leb (row_count s) 200) g),
-        (leb-true (row_count s) 200 (and_right (leb (kind_count s) 240) (leb (row_count s) 200) g), leb-true (16 + 32 * kind_count s) n (and_right (leb (kind_count s) 240 && leb (row_count s) 200) (leb (16 + 32 * kind_count s) n) f)),
-      )
-
-module _ (s t : List ℕ) {b : Bool} (e : b ≡ fits_in s (length t)) {v w u : List ℕ} where
-  pub within_limits : b ≡ true → v ≡ rows_in s → w ≡ links_in s → u ≡ overlay (front_in s) t → (v ≡ rows_for s (length t)) × ((w ≡ links_for s (length t)) × (u ≡ front_after s t))
-  unfolding rows_for links_for front_after
-  within_limits p f g h = let z : fits_in s (length t) ≡ true = sym e ∙ p in (rw z f, (rw z g, rw z h))
-
-  pub over_limits : b ≡ false → v ≡ replicate 1600 0 → w ≡ replicate 600 65535 → u ≡ t → (v ≡ rows_for s (length t)) × ((w ≡ links_for s (length t)) × (u ≡ front_after s t))
-  unfolding rows_for links_for front_after
-  over_limits p f g h = let z : fits_in s (length t) ≡ false = sym e ∙ p in (rw z f, (rw z g, rw z h))

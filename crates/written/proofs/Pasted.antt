@@ -1,4 +1,4 @@
--- Lists put one after the other over the front of a list, by a loop that copies (`appends`). t is the list now, t₀ as it was at first, `at` how much
+-- Lists put one after the other over the front of a list (`appends`). t is the list now, t₀ as it was at first, `at` how much
 -- of it is written. Assumes nothing.
 use Prim.Native.Nat.{ℕ, zero, suc, ◌+◌, ◌-◌, ◌<◌, ◌≤◌}
 use mathlib.Core.Path.{◌≡◌, refl, sym, ◌∙◌, ap}
@@ -37,9 +37,6 @@ module _ (f : ℕ → List ℕ) where
   unfolding flat
   flat_next i at n t₀ w x e q k h = x ∙ rw (e, add-one, flat, ← h) (paste_over (flat f i) t₀ w at n q k)
 
-  pub flat_end : (i n : ℕ) {t : List ℕ} (t₀ : List ℕ) → t ≡ overlay (flat f i) t₀ → i ≤ n → n ≤ i → t ≡ overlay (flat f n) t₀
-  flat_end i n t₀ e l m = rw (le_antisymm m l) e
-
   -- how much is written
   pub used_none : 0 ≡ length (flat f 0)
   unfolding flat
@@ -49,16 +46,13 @@ module _ (f : ℕ → List ℕ) where
   unfolding flat
   used_next i at n w q k h = rw (add-one, flat, ← h, length-append (flat f i) (take n w), length-take-le n w k, q)
 
-  pub used_end : (i n at : ℕ) → at ≡ length (flat f i) → i ≤ n → n ≤ i → at ≡ length (flat f n)
-  used_end i n at e l m = rw (le_antisymm m l) e
-
   -- a turn of a loop that puts one list after the other
   pub flat_turn : (i at m r : ℕ) {t v : List ℕ} (t₀ w : List ℕ) → v ≡ paste t at w m → t ≡ overlay (flat f i) t₀ → at ≡ length (flat f i) → length t ≡ r → at + m ≤ r → m ≤ length w → take m w ≡ f i
       → (length v ≡ r) × (at + m ≡ length (flat f (i + 1))) × (v ≡ overlay (flat f (i + 1)) t₀)
   flat_turn i at m r {t} t₀ w x e q l h k z =
       (ap length x ∙ length-paste t at w m (omega arith) k ∙ l, used_next i at m w q k z, flat_next i at m t₀ w x e q k z)
 
-pub ruleset appends = (flat_none, flat_next, flat_end, used_none, used_next, used_end)
+pub ruleset appends = (flat_none, used_none)
 
 -- ---- over zeros a list reads as it does alone
 zeros : (n i : ℕ) → get_or {A = ℕ} (replicate n 0) i 0 ≡ 0

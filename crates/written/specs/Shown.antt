@@ -1,16 +1,16 @@
 -- The words of an image, and what private functions of the crate compute on the way to them.
-use Rattle.std.specs.Prelude.{ℕ, zero, suc, ◌+◌, ◌*◌, ◌/◌, ◌%◌, Bool, cond, not, ◌&&◌, List, [], ◌∷◌, ◌++◌, eqb, ltb, leb, length, get_or, replicate}
-use Rattle.std.proofs.Math.Option.{Option}
+use Rattle.std.specs.Prelude.{ℕ, zero, suc, ◌+◌, ◌*◌, ◌/◌, ◌%◌, Bool, cond, not, ◌&&◌, List, [], ◌∷◌, ◌++◌, eqb, leb, length, get_or, replicate}
+use Rattle.std.specs.declared.option.Option.{Option}
 use Rattle.laws.specs.Options.{found, is_some}
 use Rattle.laws.specs.Ranges.{first, tab, overlay}
 use Rattle.dimension.specs.Dimension as D
-use Rattle.dimension.specs.declared.dimensions.Dimensions.{Dimensions}
 use Rattle.rules.specs.Kinds.{op_word}
 use Rattle.rules.specs.Layout.{kind_count, row_count}
-use Rattle.rules.specs.Catalog.{Kind, Row, Catalog, id_at, kind_at, kind_from, row_at, row_from, catalog_in, find, link}
-use Rattle.rules.specs.Table.{entries_of, in_force, exponent_word, index_word, kind_word, table_word}
-use Rattle.error.specs.declared.answer.Link.{Link}
-use Rattle.error.specs.declared.answer.Link.TheVariants.{To, Nowhere}
+use Rattle.rules.specs.Catalog.{Kind, Row, Catalog, id_at, kind_at, kind_from, row_at, row_from, catalog_in, find, link, meant}
+use Rattle.rules.specs.Table.{entries_of, in_force, index_word, kind_word, table_word}
+use Rattle.std.specs.declared.option.Option.TheVariants.{None}
+use Rattle.table.specs.Shown.{exponents_of}
+use Rattle.written.specs.declared.rows.Named.{Named}
 
 -- f 0, .., f (n - 1), one after the other
 unfoldable pub flat : (ℕ → List ℕ) → ℕ → List ℕ
@@ -18,42 +18,30 @@ flat f zero = []
 flat f (suc n) = flat f n ++ f n
 
 -- ---- links
--- a link as an index, 65,535 for none
-unfoldable pub index_by : Link → ℕ
-index_by (To k) = k
-index_by Nowhere = 65535
-
 -- what the id at byte `at` of kind k names
-unfoldable pub link_word : List ℕ → ℕ → ℕ → ℕ
-link_word s at k = index_word (link (catalog_in s) (id_at s (kind_at k + at)))
+unfoldable pub link_of : List ℕ → ℕ → ℕ → Option ℕ
+link_of s at k = link (catalog_in s) (id_at s (kind_at k + at))
 
 -- the first of n links that leads to j
-unfoldable pub first_to : List ℕ → ℕ → ℕ → Option ℕ
-first_to links n j = first (λ i. eqb (get_or links i 0) j) n
-
-unfoldable pub first_word : List ℕ → ℕ → ℕ → ℕ
-first_word links n j = index_word (first_to links n j)
+unfoldable pub first_to : List (Option ℕ) → ℕ → ℕ → Option ℕ
+first_to links n j = first (λ i. meant j (get_or links i None)) n
 
 -- ---- kinds
--- the exponents of dimensions as words
-unfoldable pub exponents_of : Dimensions → List ℕ
-exponents_of d = tab (λ i. exponent_word (D.exponent d (i / 2)) i) 24
-
 -- the role of a kind with difference d that is first named as a difference by f
-unfoldable pub role_by : ℕ → ℕ → ℕ
-role_by d f = cond (ltb d 65535) 1 (cond (ltb f 65535) 2 0)
+unfoldable pub role_by : Option ℕ → Option ℕ → ℕ
+role_by d f = cond (is_some d) 1 (cond (is_some f) 2 0)
 
 -- the marks of what is declared, by its links: difference, rate-of, who first names it as a difference, and its rate
-unfoldable pub marks_by : Kind → ℕ → ℕ → ℕ → ℕ → List ℕ
-marks_by x d t f r = cond (is_some x.dims) 1 0 ∷ x.grade ∷ role_by d f ∷ d ∷ t ∷ r ∷ 0 ∷ 0 ∷ []
+unfoldable pub marks_by : Kind → Option ℕ → Option ℕ → Option ℕ → Option ℕ → List ℕ
+marks_by x d t f r = cond (is_some x.dims) 1 0 ∷ x.grade ∷ role_by d f ∷ index_word d ∷ index_word t ∷ index_word r ∷ 0 ∷ 0 ∷ []
 
 -- its 32 words
-unfoldable pub kind_by : Kind → ℕ → ℕ → ℕ → ℕ → List ℕ
+unfoldable pub kind_by : Kind → Option ℕ → Option ℕ → Option ℕ → Option ℕ → List ℕ
 kind_by x d t f r = exponents_of (found x.dims (λ e. e) D.one) ++ marks_by x d t f r
 
 -- kind k by the lists of links
-unfoldable pub kind_in : List ℕ → List ℕ → List ℕ → List ℕ → List ℕ → ℕ → List ℕ
-kind_in s ds ts fs rs k = kind_by (kind_from s (kind_at k)) (get_or ds k 0) (get_or ts k 0) (get_or fs k 0) (get_or rs k 0)
+unfoldable pub kind_in : List ℕ → List (Option ℕ) → List (Option ℕ) → List (Option ℕ) → List (Option ℕ) → ℕ → List ℕ
+kind_in s ds ts fs rs k = kind_by (kind_from s (kind_at k)) (get_or ds k None) (get_or ts k None) (get_or fs k None) (get_or rs k None)
 
 -- word i of all kinds
 unfoldable pub kinds_word : Catalog → ℕ → ℕ
@@ -65,20 +53,28 @@ unfoldable pub entry_words : ℕ → ℕ → ℕ → ℕ → Bool → List ℕ
 entry_words l o r k turned = (l ∷ o ∷ r ∷ k ∷ []) ++ cond turned (r ∷ o ∷ l ∷ k ∷ []) []
 
 -- the entries of a row by what its ids name
-unfoldable pub entries_by : Row → ℕ → ℕ → ℕ → List ℕ
-entries_by x l r k = cond (ltb l 65535 && ltb r 65535 && ltb k 65535) (entry_words l (op_word x.op) r k (x.commutative && not (eqb l r))) []
+unfoldable pub entries_by : Row → Named → List ℕ
+entries_by x n = found n.left (λ l. found n.right (λ r. found n.result (λ k. entry_words l (op_word x.op) r k (x.commutative && not (eqb l r))) []) []) []
 
 -- what row i of an image enters
 unfoldable pub row_entries : List ℕ → ℕ → List ℕ
 row_entries s i = entries_of (catalog_in s) (row_from s (row_at s i))
 
--- what id j of all rows names, three ids a row: left, right, result
-unfoldable pub row_link : List ℕ → ℕ → ℕ
-row_link s j = index_word (find (catalog_in s) (id_at s (row_at s (j / 3) + 32 * (j % 3))))
+-- what the ids of a row name
+unfoldable pub named_by : Catalog → Row → Named
+named_by C x = record { left = find C x.left; right = find C x.right; result = find C x.result }
 
--- what the ids of all rows name, in a list of 600 with 65,535 for none
-abbrev pub links_in : List ℕ → List ℕ
-links_in s = overlay (tab (row_link s) (3 * row_count s)) (replicate 600 65535)
+-- what the ids of row i of an image name
+unfoldable pub row_named : List ℕ → ℕ → Named
+row_named s i = named_by (catalog_in s) (row_from s (row_at s i))
+
+-- past the rows nothing is named
+abbrev pub none_named : Named
+none_named = record { left = None; right = None; result = None }
+
+-- what the ids of all rows name, in a list of 200
+abbrev pub named_in : List ℕ → List Named
+named_in s = overlay (tab (row_named s) (row_count s)) (replicate 200 none_named)
 
 -- the words of the rows in force, with zeros past them
 unfoldable pub rows_in : List ℕ → List ℕ
@@ -97,9 +93,9 @@ fits_in s n = leb (kind_count s) 240 && leb (row_count s) 200 && leb (16 + 32 * 
 unfoldable pub front_after : List ℕ → List ℕ → List ℕ
 front_after s t = cond (fits_in s (length t)) (overlay (front_in s) t) t
 
--- the rows and their links beside n such words
+-- the rows and what their ids name, beside n such words
 unfoldable pub rows_for : List ℕ → ℕ → List ℕ
 rows_for s n = cond (fits_in s n) (rows_in s) (replicate 1600 0)
 
-unfoldable pub links_for : List ℕ → ℕ → List ℕ
-links_for s n = cond (fits_in s n) (links_in s) (replicate 600 65535)
+unfoldable pub named_for : List ℕ → ℕ → List Named
+named_for s n = cond (fits_in s n) (named_in s) (replicate 200 none_named)

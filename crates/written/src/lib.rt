@@ -2,12 +2,12 @@
 // else about links is read from the lists; a compilation reads those of the rows too.
 #![tactic(auto)]
 
+mod keyed;
 mod kinds;
 mod links;
 mod marks;
 mod rows;
 mod whole;
-mod words;
 
-pub use marks::exponent_words;
+pub use rows::Named;
 pub use whole::{Written, table_words};

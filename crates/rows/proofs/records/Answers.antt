@@ -7,13 +7,13 @@ use Rattle.rows.specs.Records.{records}
 use Rattle.rows.proofs.records.Goals as goal
 
 pub loop-i-init : goal.loop-i-init
-loop-i-init c = (omega arith, refl, fill_none _ [])
+loop-i-init c = (refl, fill_none _ [])
 
 pub loop-i-preserved : goal.loop-i-preserved
 loop-i-preserved c =
     let l = c.loop-i in
-    (omega arith, simp length-set l.invariant.1, fill_next _ _ 400 _ l.invariant.2 l.invariant.1 (omega arith) c.record_at-row.ensures)
+    (simp length-set l.invariant.0, fill_next _ _ 400 _ l.invariant.1 l.invariant.0 (omega arith) c.record_at.ensures)
 
 pub returns : goal.returns
 unfolding records
-returns c = fill_end _ _ 400 _ c.loop-i.invariant.2 c.loop-i.invariant.1 (omega arith) (omega arith)
+returns c = fill_end _ _ 400 _ c.loop-i.invariant.1 c.loop-i.invariant.0 (omega arith) (omega arith)

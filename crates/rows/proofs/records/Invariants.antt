@@ -1,5 +1,4 @@
 -- `rows::records` meets its contract: record by record.
-use Prim.Native.Nat.{◌≤◌, ◌-◌}
 use mathlib.Core.Path.{◌≡◌}
 use lib.ListN.{length, take}
 use Rattle.laws.specs.Ranges.{tab}
@@ -7,7 +6,4 @@ use Rattle.rows.specs.Records.{record_at}
 use Rattle.rows.proofs.records.Given as goal
 
 abbrev pub invariant-loop-i : goal.invariant-loop-i
-invariant-loop-i l = (l.i ≤ 400) × (length l.rows ≡ 400) × (take l.i l.rows ≡ tab (record_at l.words) l.i)
-
-abbrev pub decreases-loop-i : goal.decreases-loop-i
-decreases-loop-i l = 400 - l.i
+invariant-loop-i l = (length l.rows ≡ 400) × (take l.i l.rows ≡ tab (record_at l.words) l.i)

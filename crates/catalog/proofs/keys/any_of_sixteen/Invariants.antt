@@ -1,5 +1,4 @@
 -- `catalog::keys::any_of_sixteen` meets its contract: a loop that gathers.
-use Prim.Native.Nat.{◌-◌, ◌≤◌}
 use mathlib.Core.Path.{◌≡◌}
 use Rattle.laws.specs.Options.{is_some}
 use Rattle.laws.specs.Ranges.{first_from}
@@ -7,7 +6,4 @@ use Rattle.catalog.specs.Keys.{key_fits}
 use Rattle.catalog.proofs.keys.any_of_sixteen.Given as goal
 
 abbrev pub invariant-loop-i : goal.invariant-loop-i
-invariant-loop-i l = (l.i ≤ 16) × (l.any ≡ is_some (first_from (key_fits l.keys l.key) l.from l.i))
-
-abbrev pub decreases-loop-i : goal.decreases-loop-i
-decreases-loop-i l = 16 - l.i
+invariant-loop-i l = (l.any ≡ is_some (first_from (key_fits l.keys l.key) l.from l.i))

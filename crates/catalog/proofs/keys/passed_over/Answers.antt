@@ -1,3 +1,5 @@
+use Prim.Native.Nat.{◌+◌, ◌*◌}
+use mathlib.Core.Path.{◌≡◌}
 use borrow.Author.Rules.{rules}
 use native.Mathlib.Omega.{arith}
 use Rattle.laws.specs.Ranges.{first_from}
@@ -8,11 +10,12 @@ use Rattle.catalog.specs.Keys.{key_fits}
 use Rattle.catalog.proofs.Keyed.{over_next}
 use Rattle.catalog.proofs.keys.passed_over.Goals as goal
 
-pub loop-k-init : goal.loop-k-init
-loop-k-init c = search (first_none, rules)
+pub loop-block-init : goal.loop-block-init
+loop-block-init c = search (first_none, rules)
 
-pub loop-k-preserved : goal.loop-k-preserved
-loop-k-preserved c =
-    let l = c.loop-k in
+pub loop-block-preserved : goal.loop-block-preserved
+loop-block-preserved c =
+    let l = c.loop-block in
     let a = c.args in
-    (omega arith, over_next _ _ l.k l.invariant.1 (none_there (first_from (key_fits a.keys.now a.key) l.k 16) c.any_of_sixteen.ensures (not_then c.if-any_of_sixteen.false)))
+    let e : 16 * l.block + 16 ≡ 16 * (l.block + 1) = omega arith in
+    rw e at (over_next _ _ (16 * l.block) l.invariant (none_there (first_from (key_fits a.keys.now a.key) (16 * l.block) 16) c.any_of_sixteen.ensures (not_then c.if-any_of_sixteen.false)))

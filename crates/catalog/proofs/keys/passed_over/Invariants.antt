@@ -1,13 +1,10 @@
 -- `catalog::keys::passed_over` meets its contract: sixteen kinds at a time.
-use Prim.Native.Nat.{◌≤◌, ◌-◌}
+use Prim.Native.Nat.{◌*◌}
 use mathlib.Core.Path.{◌≡◌}
-use mathlib.Core.Option.{none}
+use Rattle.std.specs.declared.option.Option.TheVariants.{None}
 use Rattle.laws.specs.Ranges.{first}
 use Rattle.catalog.specs.Keys.{key_fits}
 use Rattle.catalog.proofs.keys.passed_over.Given as goal
 
-abbrev pub invariant-loop-k : goal.invariant-loop-k
-invariant-loop-k l = (l.k ≤ l.n) × (first (key_fits l.keys l.key) l.k ≡ none)
-
-abbrev pub decreases-loop-k : goal.decreases-loop-k
-decreases-loop-k l = l.n - l.k
+abbrev pub invariant-loop-block : goal.invariant-loop-block
+invariant-loop-block l = first (key_fits l.keys l.key) (16 * l.block) ≡ None

@@ -1,33 +1,46 @@
--- `compile::compiler::check_declared` meets its contract: stage by stage.
-use Rattle.compile.specs.declared.kinds.Rule.TheVariants.{Id, Difference, Rate}
+-- `compile::compiler::check_declared` meets its contract.
+use Rattle.std.proofs.Common.{rules}
+use Rattle.std.proofs.lemmas.Result.{err_from_is_err_and}
+use Rattle.rules.specs.Catalog.{catalog_in}
+use Rattle.rules.specs.Compile.{id_rule, difference_rule, rate_rule}
 use Rattle.compile.proofs.Stages.{kinds_told, rule_told, ids_refused, differences_refused, neutral_refused, instant_refused, rates_answer}
 use Rattle.compile.proofs.compiler.check_declared.Goals as goal
 
-pub returns-in-Refused : goal.returns-in-Refused
-returns-in-Refused c =
-    ids_refused _ (kinds_told _ Id c.check_kinds-ids.ensures) c.in-Refused.is
+pub returns-in_err-check_kinds : goal.returns-in_err-check_kinds
+returns-in_err-check_kinds c =
+    let s = c.args.c.image.now in
+    let ids = kinds_told s id_rule c.kind_count-n.ensures (c.in_err-check_kinds.ensures (id_rule (catalog_in s)) (λ k r l p. search rules)) in
+    let p = err_from_is_err_and c.from_residual.result c.from_residual.ensures.1 in
+    rw (p.1, p.2) (ids_refused (catalog_in s) ids)
 
-pub returns-in-Refused-told_differences : goal.returns-in-Refused-told_differences
-returns-in-Refused-told_differences c =
-    differences_refused _ (kinds_told _ Id c.check_kinds-ids.ensures) c.in_default.not-Refused (kinds_told _ Difference c.check_kinds-differences.ensures) c.in-Refused-told_differences.is
+pub returns-in_err-check_kinds-2 : goal.returns-in_err-check_kinds-2
+returns-in_err-check_kinds-2 c =
+    let s = c.args.c.image.now in
+    let ids = kinds_told s id_rule c.kind_count-n.ensures (c.in_ok-check_kinds.ensures (id_rule (catalog_in s)) (λ k r l p. search rules)) in
+    let differences = kinds_told s difference_rule c.kind_count-n.ensures (c.in_err-check_kinds-2.ensures (difference_rule (catalog_in s)) (λ k r l p. search rules)) in
+    let p = err_from_is_err_and c.from_residual-in_err-check_kinds-2.result c.from_residual-in_err-check_kinds-2.ensures.1 in
+    rw (p.1, p.2) (differences_refused (catalog_in s) ids differences)
 
-pub returns-in-Refused-told_neutral : goal.returns-in-Refused-told_neutral
-returns-in-Refused-told_neutral c =
-    neutral_refused _ (kinds_told _ Id c.check_kinds-ids.ensures) c.in_default.not-Refused
-    (kinds_told _ Difference c.check_kinds-differences.ensures) c.in_default-told_differences.not-Refused
-    (rule_told 12 _ c.check_dimensionless-neutral.ensures) c.in-Refused-told_neutral.is
+pub returns-in_err-check_dimensionless : goal.returns-in_err-check_dimensionless
+returns-in_err-check_dimensionless c =
+    let s = c.args.c.image.now in
+    let ids = kinds_told s id_rule c.kind_count-n.ensures (c.in_ok-check_kinds.ensures (id_rule (catalog_in s)) (λ k r l p. search rules)) in
+    let differences = kinds_told s difference_rule c.kind_count-n.ensures (c.in_ok-check_kinds-2.ensures (difference_rule (catalog_in s)) (λ k r l p. search rules)) in
+    let p = err_from_is_err_and c.from_residual-in_err-check_dimensionless.result c.from_residual-in_err-check_dimensionless.ensures.1 in
+    rw (p.1, p.2) (neutral_refused (catalog_in s) ids differences (rule_told 12 _ c.in_err-check_dimensionless.ensures))
 
-pub returns-in-Refused-told_instant : goal.returns-in-Refused-told_instant
-returns-in-Refused-told_instant c =
-    instant_refused _ (kinds_told _ Id c.check_kinds-ids.ensures) c.in_default.not-Refused
-    (kinds_told _ Difference c.check_kinds-differences.ensures) c.in_default-told_differences.not-Refused
-    (rule_told 12 _ c.check_dimensionless-neutral.ensures) c.in_default-told_neutral.not-Refused
-    (rule_told 44 _ c.check_time-instant.ensures) c.in-Refused-told_instant.is
+pub returns-in_err-check_time : goal.returns-in_err-check_time
+returns-in_err-check_time c =
+    let s = c.args.c.image.now in
+    let ids = kinds_told s id_rule c.kind_count-n.ensures (c.in_ok-check_kinds.ensures (id_rule (catalog_in s)) (λ k r l p. search rules)) in
+    let differences = kinds_told s difference_rule c.kind_count-n.ensures (c.in_ok-check_kinds-2.ensures (difference_rule (catalog_in s)) (λ k r l p. search rules)) in
+    let p = err_from_is_err_and c.from_residual-in_err-check_time.result c.from_residual-in_err-check_time.ensures.1 in
+    rw (p.1, p.2) (instant_refused (catalog_in s) ids differences (rule_told 12 _ c.in_ok-check_dimensionless.ensures) (rule_told 44 _ c.in_err-check_time.ensures))
 
 pub returns : goal.returns
 returns c =
-    rates_answer _ (kinds_told _ Id c.check_kinds-ids.ensures) c.in_default.not-Refused
-    (kinds_told _ Difference c.check_kinds-differences.ensures) c.in_default-told_differences.not-Refused
-    (rule_told 12 _ c.check_dimensionless-neutral.ensures) c.in_default-told_neutral.not-Refused
-    (rule_told 44 _ c.check_time-instant.ensures) c.in_default-told_instant.not-Refused
-    (kinds_told _ Rate c.check_kinds.ensures)
+    let s = c.args.c.image.now in
+    let ids = kinds_told s id_rule c.kind_count-n.ensures (c.in_ok-check_kinds.ensures (id_rule (catalog_in s)) (λ k r l p. search rules)) in
+    let differences = kinds_told s difference_rule c.kind_count-n.ensures (c.in_ok-check_kinds-2.ensures (difference_rule (catalog_in s)) (λ k r l p. search rules)) in
+    let rates = kinds_told s rate_rule c.kind_count-n.ensures (c.check_kinds-3.ensures (rate_rule (catalog_in s)) (λ k r l p. search rules)) in
+    rates_answer (catalog_in s) ids differences (rule_told 12 _ c.in_ok-check_dimensionless.ensures) (rule_told 44 _ c.in_ok-check_time.ensures) rates

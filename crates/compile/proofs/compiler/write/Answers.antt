@@ -1,5 +1,4 @@
 -- `compile::compiler::write` meets its contract.
-use mathlib.Core.Path.{refl}
 use native.Mathlib.Omega.{arith}
 use Rattle.compile.specs.Shown.{whole}
 use Rattle.compile.proofs.Copied.{all_three}
@@ -8,4 +7,4 @@ use Rattle.compile.proofs.compiler.write.Goals as goal
 pub returns : goal.returns
 unfolding whole
 returns c =
-    all_three c.args.front.now c.args.rows.now c.args.table.now 7696 c.requires.front_len_bound (omega (arith, c.requires.in_bounds)) c.copy.ensures c.clear.ensures refl c.copy-2.ensures
+    all_three c.args.front.now c.args.rows.now c.args.table.now 7696 c.requires.front_len_bound (omega (arith, c.requires.in_bounds)) c.copy_from_slice.ensures.after (c.fill.ensures.after (λ y e. e)) c.copy_from_slice-2.ensures.after

@@ -1,19 +1,20 @@
-use borrow.Author.Rules.{rules}
-use Rattle.rules.specs.Catalog.{catalog_in}
-use Rattle.compile.specs.Asked.{asked}
-use Rattle.compile.proofs.EachRecord.{records, all_next}
+use Rattle.std.proofs.Common.{arith}
+use Rattle.std.proofs.lemmas.Result.{err_from_is_err_and}
+use mathlib.Core.Path.{refl}
+use Rattle.compile.proofs.EachRecord.{all_none, all_next, all_here, all_end}
 use Rattle.compile.proofs.kinds.check_kinds.Goals as goal
 
 pub loop-k-init : goal.loop-k-init
-loop-k-init c = search (records, rules)
+loop-k-init g c = λ rule h. all_none rule
 
-pub returns-in-Refused : goal.returns-in-Refused
-returns-in-Refused c = search (records, rules)
+pub returns-in_err-check : goal.returns-in_err-check
+returns-in_err-check g c =
+    λ rule h.
+    let p = err_from_is_err_and c.from_residual.result c.from_residual.ensures.1 in
+    rw (p.1, p.2) (all_here rule c.loop-k.k c.args.n refl (c.loop-k.invariant rule h) (omega arith) (h c.loop-k.k _ (omega arith) c.in_err-check.ensures))
 
 pub loop-k-preserved : goal.loop-k-preserved
-loop-k-preserved c =
-    let a = c.args in
-    (search rules, c.loop-k.invariant.1, all_next (asked a.rule (catalog_in a.image.now)) c.loop-k.k c.loop-k.invariant.2 c.check_kind-answer.ensures c.in_default.not-Refused)
+loop-k-preserved g c = λ rule h. all_next rule c.loop-k.k (c.loop-k.invariant rule h) (h c.loop-k.k _ (omega arith) c.in_ok-check.ensures)
 
 pub returns : goal.returns
-returns c = search (records, rules)
+returns g c = λ rule h. all_end rule c.loop-k.k c.args.n refl (c.loop-k.invariant rule h) (omega arith) (omega arith)

@@ -1,18 +1,12 @@
-use borrow.Author.Rules.{rules}
-use Rattle.laws.proofs.First.{first_none, first_next}
-use Rattle.compile.proofs.Neutral.{scanned}
+use native.Mathlib.Omega.{arith}
+use Rattle.rules.specs.Table.{kinds_of}
+use Rattle.compile.proofs.Neutral.{difference_here, difference_end}
 use Rattle.compile.proofs.links.is_difference.Goals as goal
 
-ruleset finds = (first_none, first_next, scanned)
-
-pub loop-j-init : goal.loop-j-init
-loop-j-init c = search (finds, rules)
-
 pub returns-then-is_difference_of : goal.returns-then-is_difference_of
-returns-then-is_difference_of c = search (scanned, rules)
-
-pub loop-j-preserved : goal.loop-j-preserved
-loop-j-preserved c = search (finds, rules)
+returns-then-is_difference_of c =
+    difference_here (kinds_of c.args.t.now) c.args.k c.loop-j.j c.kind_count-j-end.ensures c.loop-j.invariant (omega arith) c.is_difference_of.ensures c.if-is_difference_of.true
 
 pub returns : goal.returns
-returns c = search (scanned, rules)
+returns c =
+    difference_end (kinds_of c.args.t.now) c.args.k c.loop-j.j c.kind_count-j-end.ensures c.loop-j.invariant (omega arith) (omega arith)

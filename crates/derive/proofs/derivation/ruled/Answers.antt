@@ -15,8 +15,8 @@ returns-then-is_point c = search (derives, rules)
 pub returns-then-is_point-2 : goal.returns-then-is_point-2
 returns-then-is_point-2 c = search (derives, rules)
 
-pub returns-in-Single : goal.returns-in-Single
-returns-in-Single c = search (derives, rules)
+pub returns-in-Some : goal.returns-in-Some
+returns-in-Some c = search (derives, rules)
 
-pub returns-in-Absent : goal.returns-in-Absent
-returns-in-Absent c = search (derives, rules)
+pub returns-in-None : goal.returns-in-None
+returns-in-None c = search (derives, rules)

@@ -1,6 +1,5 @@
 use borrow.Author.Rules.{rules}
 use mathlib.Core.Path.{refl}
-use native.Mathlib.Omega.{arith}
 use Rattle.laws.proofs.All.{everys, every_next}
 use Rattle.fitting.specs.Shown.{same_word}
 use Rattle.fitting.proofs.compared.same_words.Goals as goal
@@ -10,4 +9,4 @@ loop-i-init c = search (everys, rules)
 
 pub loop-i-preserved : goal.loop-i-preserved
 unfolding same_word
-loop-i-preserved c = let l = c.loop-i in (omega arith, every_next _ l.i l.invariant.1 refl)
+loop-i-preserved c = let l = c.loop-i in every_next _ l.i l.invariant refl

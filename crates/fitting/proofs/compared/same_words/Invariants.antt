@@ -1,12 +1,8 @@
 -- `fitting::compared::same_words` meets its contract: a loop that gathers.
-use Prim.Native.Nat.{◌-◌, ◌≤◌}
 use mathlib.Core.Path.{◌≡◌}
 use Rattle.laws.specs.Ranges.{all}
 use Rattle.fitting.specs.Shown.{same_word}
 use Rattle.fitting.proofs.compared.same_words.Given as goal
 
 abbrev pub invariant-loop-i : goal.invariant-loop-i
-invariant-loop-i l = (l.i ≤ 24) × (l.same ≡ all (same_word l.t l.p l.w) l.i)
-
-abbrev pub decreases-loop-i : goal.decreases-loop-i
-decreases-loop-i l = 24 - l.i
+invariant-loop-i l = l.same ≡ all (same_word l.t l.p l.w) l.i

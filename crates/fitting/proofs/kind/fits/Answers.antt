@@ -7,4 +7,4 @@ use Rattle.laws.proofs.Cases.{not_then}
 
 pub returns-then-not-same_word : goal.returns-then-not-same_word
 returns-then-not-same_word c =
-    word_differs _ _ _ _ _ (λ j. omega (arith, c.shared_slice_known-1.given j)) (λ j. omega (arith, c.shared_slice_known-2-1.given j)) (search rules) c.same_word.ensures (not_then c.if-not-same_word.true)
+    word_differs _ _ _ _ _ (λ j. omega (arith, c.type_inv.t j)) (λ j. omega (arith, c.type_inv.w j)) (search rules) c.same_word.ensures (not_then c.if-not-same_word.true)

@@ -1,5 +1,5 @@
 -- `fitting::listed::list` meets its contract: written one after another.
-use Prim.Native.Nat.{◌≤◌, ◌-◌}
+use Prim.Native.Nat.{◌≤◌}
 use mathlib.Core.Path.{◌≡◌}
 use lib.ListN.{length}
 use Rattle.laws.specs.Ranges.{picked, overlay}
@@ -9,7 +9,4 @@ use Rattle.fitting.specs.Shown.{at}
 use Rattle.fitting.proofs.listed.list.Given as goal
 
 abbrev pub invariant-loop-k : goal.invariant-loop-k
-invariant-loop-k l = (l.k ≤ l.n) × (l.count ≤ l.k) × (length l.twins ≡ length l.initial.twins) × (l.count ≡ length (picked (K.fits (kinds_of l.t) (at (dims_from l.w 0) l.g)) l.k)) × (l.twins ≡ overlay (picked (K.fits (kinds_of l.t) (at (dims_from l.w 0) l.g)) l.k) l.initial.twins)
-
-abbrev pub decreases-loop-k : goal.decreases-loop-k
-decreases-loop-k l = l.n - l.k
+invariant-loop-k l = (l.count ≤ l.k) × (length l.twins ≡ length l.initial.twins) × (l.count ≡ length (picked (K.fits (kinds_of l.t) (at (dims_from l.w 0) l.g)) l.k)) × (l.twins ≡ overlay (picked (K.fits (kinds_of l.t) (at (dims_from l.w 0) l.g)) l.k) l.initial.twins)

@@ -6,8 +6,5 @@ use Rattle.fitting.proofs.listed.list_candidates.Goals as goal
 pub returns-then-twins-lt240 : goal.returns-then-twins-lt240
 returns-then-twins-lt240 c = search (rooms, rules)
 
-pub list-requires : goal.list-requires
-list-requires c = search (rooms, rules)
-
 pub returns : goal.returns
 returns c = search (rooms, rules)

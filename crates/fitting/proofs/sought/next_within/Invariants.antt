@@ -1,7 +1,7 @@
 -- `fitting::sought::next_within` meets its contract: a scan of the kinds that are not passed over.
-use Prim.Native.Nat.{◌-◌, ◌≤◌}
+use Prim.Native.Nat.{◌-◌}
 use mathlib.Core.Path.{◌≡◌}
-use mathlib.Core.Option.{none}
+use Rattle.std.specs.declared.option.Option.TheVariants.{None}
 use Rattle.laws.specs.Ranges.{first_from}
 use Rattle.rules.specs.Kinds as K
 use Rattle.rules.specs.Table.{kinds_of, dims_from}
@@ -9,7 +9,4 @@ use Rattle.fitting.specs.Shown.{at}
 use Rattle.fitting.proofs.sought.next_within.Given as goal
 
 abbrev pub invariant-loop-k : goal.invariant-loop-k
-invariant-loop-k l = (l.from ≤ l.k) × (l.k ≤ l.n) × (first_from (K.fits (kinds_of l.t) (at (dims_from l.w 0) l.g)) l.from (l.k - l.from) ≡ none)
-
-abbrev pub decreases-loop-k : goal.decreases-loop-k
-decreases-loop-k l = l.n - l.k
+invariant-loop-k l = first_from (K.fits (kinds_of l.t) (at (dims_from l.w 0) l.g)) l.from (l.k - l.from) ≡ None

@@ -1,10 +1,6 @@
--- `formula::walk::run` meets its contract.
-use Rattle.formula.proofs.Ends.{ends}
-use borrow.Author.Rules.{rules}
+-- `formula::walk::run` meets its contract: a malformed formula.
+use Rattle.formula.proofs.Ends.{run_bad}
 use Rattle.formula.proofs.walk.run.Goals as goal
 
-pub returns-in-Bad : goal.returns-in-Bad
-returns-in-Bad c = search (ends, rules)
-
-pub returns-in-Fine : goal.returns-in-Fine
-returns-in-Fine c = search (ends, rules)
+pub returns-in-Some : goal.returns-in-Some
+returns-in-Some c = run_bad _ _ _ c.malformed.ensures c.in-Some.is c.at.ensures

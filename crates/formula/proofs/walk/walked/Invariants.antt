@@ -1,5 +1,5 @@
 -- `formula::walk::walked` meets its contract.
-use Prim.Native.Nat.{◌-◌, ◌/◌, ◌≤◌}
+use Prim.Native.Nat.{◌/◌, ◌≤◌}
 use mathlib.Core.Path.{◌≡◌}
 use mathlib.Core.List.{[]}
 use lib.ListN.{length}
@@ -10,9 +10,6 @@ use Rattle.tokens.specs.Shown.{remaining}
 use Rattle.formula.specs.Shown.{stack_of}
 use Rattle.formula.proofs.walk.walked.Given as goal
 
-abbrev pub invariant-loop-k : goal.invariant-loop-k
-invariant-loop-k l = (l.k ≤ l.n) × (l.n ≡ length l.bytes / 12) × (l.depth ≤ 32) × (length l.stack ≡ 32)
-    × (rule.walk (rule.terms (kinds_of l.t) (rows_of l.rows)) (remaining l.bytes l.k) l.k (stack_of l.stack l.depth) ≡ rule.walk (rule.terms (kinds_of l.t) (rows_of l.rows)) (tokens_in l.bytes) 0 [])
-
-abbrev pub decreases-loop-k : goal.decreases-loop-k
-decreases-loop-k l = l.n - l.k
+abbrev pub invariant-loop-place : goal.invariant-loop-place
+invariant-loop-place l = (l.n ≡ length l.bytes / 12) × (l.depth ≤ 32) × (length l.stack ≡ 32)
+    × (rule.walk (rule.terms (kinds_of l.t) (rows_of l.rows)) (remaining l.bytes l.place) l.place (stack_of l.stack l.depth) ≡ rule.walk (rule.terms (kinds_of l.t) (rows_of l.rows)) (tokens_in l.bytes) 0 [])

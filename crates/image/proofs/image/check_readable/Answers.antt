@@ -1,23 +1,9 @@
 -- `image::image::check_readable` meets its contract.
-use borrow.Author.Rules.{rules}
-use Rattle.image.proofs.Refused.{refusals, lengths}
+use Rattle.image.proofs.Refused.{block_told, byte_told}
 use Rattle.image.proofs.image.check_readable.Goals as goal
 
-pub wrong_among-requires-clause-n_bound : goal.wrong_among-requires-clause-n_bound
-wrong_among-requires-clause-n_bound c =
-    search (lengths, rules)
+pub returns-in-Some : goal.returns-in-Some
+returns-in-Some c = block_told _ c.requires c.wrong_among.ensures c.in-Some.is c.at.ensures
 
-pub returns-in-At : goal.returns-in-At
-returns-in-At c = search (refusals, rules)
-
-pub returns-then-schema-ne4 : goal.returns-then-schema-ne4
-returns-then-schema-ne4 c = search (refusals, rules)
-
-pub wrong_byte-requires : goal.wrong_byte-requires
-wrong_byte-requires c = search (lengths, rules)
-
-pub returns-in-At-wrong_byte : goal.returns-in-At-wrong_byte
-returns-in-At-wrong_byte c = search (refusals, rules)
-
-pub returns : goal.returns
-returns c = search (refusals, rules)
+pub returns-in-Some-wrong_byte : goal.returns-in-Some-wrong_byte
+returns-in-Some-wrong_byte c = byte_told _ c.requires c.wrong_among.ensures c.in_default.is c.u32_at-schema.ensures c.if-schema-ne4.false c.wrong_byte.ensures c.in-Some-wrong_byte.is c.at-in-Some-wrong_byte.ensures

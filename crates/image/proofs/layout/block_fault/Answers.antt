@@ -1,22 +1,23 @@
 -- `image::layout::block_fault` meets its contract: the header, a block of kinds, or one of rows.
-use mathlib.Core.Path.{◌∙◌, ap}
+use mathlib.Core.Path.{◌∙◌}
 use native.Mathlib.Omega.{arith}
-use Rattle.image.specs.Shown.{placed}
+use borrow.Author.Rules.{rules}
+use Rattle.rules.specs.Layout.{kind_wrong, row_wrong}
 use Rattle.image.proofs.Whole.{header_block, kind_block, row_block}
 use Rattle.image.proofs.layout.block_fault.Goals as goal
 
 pub returns-then-b-eq0 : goal.returns-then-b-eq0
 returns-then-b-eq0 c =
-    rw c.if-b-eq0.true (c.header_fault.ensures ∙ ap placed (header_block c.args.s.now))
+    rw c.if-b-eq0.true (c.header_fault.ensures ∙ (header_block c.args.s.now))
 
 pub returns-then-b-k : goal.returns-then-b-k
 returns-then-b-k c =
     let kinds = c.u16_at-kinds.ensures in
-    rw kinds at c.kind_block_fault.ensures
-    ∙ ap placed (kind_block c.args.s.now c.args.b (omega arith) (rw kinds at c.if-b-k.true))
+    rw kinds at (c.records_block_fault.ensures kind_wrong (λ q r e. search rules))
+    ∙ (kind_block c.args.s.now c.args.b (omega arith) (rw kinds at c.if-b-k.true))
 
 pub returns : goal.returns
 returns c =
     let kinds = c.u16_at-kinds.ensures in
-    rw (kinds, c.u16_at-rows.ensures) at c.row_block_fault.ensures
-    ∙ ap placed (row_block c.args.s.now c.args.b (omega arith) (rw kinds at c.if-b-k.false))
+    rw (kinds, c.u16_at-rows.ensures) at (c.records_block_fault-2.ensures row_wrong (λ q r e. search rules))
+    ∙ (row_block c.args.s.now c.args.b (omega arith) (rw kinds at c.if-b-k.false))

@@ -1,5 +1,4 @@
 -- `joined::words::whole_words` meets its contract: pair by pair.
-use Prim.Native.Nat.{◌≤◌, ◌-◌}
 use mathlib.Core.Path.{◌≡◌}
 use lib.ListN.{length, take}
 use Rattle.laws.specs.Ranges.{tab}
@@ -7,8 +6,5 @@ use Rattle.rules.specs.Table as T
 use Rattle.joined.proofs.Sums.{joined_at}
 use Rattle.joined.proofs.words.whole_words.Given as goal
 
-abbrev pub invariant-loop-b : goal.invariant-loop-b
-invariant-loop-b l = (l.b ≤ 12) × (length l.w ≡ 24) × (tab (T.exponent_from l.w 0) l.b ≡ take l.b (tab (joined_at l.t l.p l.q l.div) 12))
-
-abbrev pub decreases-loop-b : goal.decreases-loop-b
-decreases-loop-b l = 12 - l.b
+abbrev pub invariant-loop-i : goal.invariant-loop-i
+invariant-loop-i l = (length l.w ≡ 24) × (tab (T.exponent_from l.w 0) l.i ≡ take l.i (tab (joined_at l.a.words.now l.b.words.now l.div) 12))

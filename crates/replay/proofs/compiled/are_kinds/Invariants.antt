@@ -1,5 +1,5 @@
 -- `replay::compiled::are_kinds` meets its contract.
-use Prim.Native.Nat.{◌≤◌, ◌-◌, ◌+◌, ◌*◌}
+use Prim.Native.Nat.{◌≤◌, ◌+◌, ◌*◌}
 use mathlib.Core.Path.{◌≡◌}
 use mathlib.Core.Bool.{true}
 use Rattle.laws.specs.Ranges.{all}
@@ -7,7 +7,4 @@ use Rattle.replay.specs.Compiled.{kind_at, kind_here}
 use Rattle.replay.proofs.compiled.are_kinds.Given as goal
 
 abbrev pub invariant-loop-k : goal.invariant-loop-k
-invariant-loop-k l = (l.k ≤ l.n) × (l.at ≤ 8 + 1540 * l.k) × (l.at ≡ kind_at l.s l.k) × (all (kind_here l.s l.t) l.k ≡ true)
-
-abbrev pub decreases-loop-k : goal.decreases-loop-k
-decreases-loop-k l = l.n - l.k
+invariant-loop-k l = (l.at ≤ 8 + 1540 * l.k) × (l.at ≡ kind_at l.s l.k) × (all (kind_here l.s l.t) l.k ≡ true)

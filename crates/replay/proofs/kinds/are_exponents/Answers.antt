@@ -1,19 +1,12 @@
-use borrow.Author.Tests.{not-true, not-false}
-use Rattle.laws.proofs.All.{alls}
-use Rattle.replay.specs.Compiled.{exponents_as}
+-- `replay::kinds::are_exponents` meets its contract.
+use borrow.Author.Tests.{tests}
 use borrow.Author.Rules.{rules}
+use Rattle.replay.proofs.Ranges.{all_told}
+use Rattle.replay.specs.Compiled.{exponent_as, exponents_as}
 use Rattle.replay.proofs.kinds.are_exponents.Goals as goal
-
-pub loop-b-init : goal.loop-b-init
-loop-b-init c = search (alls, rules)
-
-pub returns-then-not-is_exponent : goal.returns-then-not-is_exponent
-unfolding exponents_as
-returns-then-not-is_exponent c = search (alls, not-true, rules)
-
-pub loop-b-preserved : goal.loop-b-preserved
-loop-b-preserved c = search (alls, not-false, rules)
 
 pub returns : goal.returns
 unfolding exponents_as
-returns c = search (alls, rules)
+returns c =
+    let a = c.args in
+    all_told (exponent_as a.s.now a.t.now) 12 _ _ _ c.all.ensures.ran (λ x b q k. search (rules, tests))

@@ -1,13 +1,12 @@
-use borrow.Author.Tests.{not-true, not-false}
-use Rattle.laws.proofs.All.{alls}
+-- `replay::lines::are_bytes` meets its contract.
+use borrow.Author.Tests.{tests}
 use borrow.Author.Rules.{rules}
+use Rattle.replay.proofs.Ranges.{all_told}
+use Rattle.replay.specs.Pieces.{byte_as}
 use Rattle.replay.proofs.lines.are_bytes.Goals as goal
 
-pub loop-i-init : goal.loop-i-init
-loop-i-init c = search (alls, rules)
-
-pub returns-then-not-is_byte : goal.returns-then-not-is_byte
-returns-then-not-is_byte c = search (alls, not-true, rules)
-
-pub loop-i-preserved : goal.loop-i-preserved
-loop-i-preserved c = search (alls, not-false, rules)
+pub returns : goal.returns
+unfolding byte_as
+returns c =
+    let a = c.args in
+    all_told (byte_as a.s.now a.t.now) a.n _ _ _ c.all.ensures.ran (λ x b q k. search (rules, tests))

@@ -2,12 +2,9 @@
 use mir.Syntax.{w32}
 use mir.Val.{SFits}
 use mir.ValLaws.{to_z-of_z}
-use Rattle.replay.proofs.Asked.{is_inexact, is_exact}
+use Rattle.replay.proofs.Asked.{is_exact}
 use borrow.Author.Rules.{rules}
 use Rattle.replay.proofs.requests.exponent.Goals as goal
-
-pub returns-then-byte_at-eq9 : goal.returns-then-byte_at-eq9
-returns-then-byte_at-eq9 c = is_inexact _ c.byte_at.ensures c.if-byte_at-eq9.true
 
 pub returns : goal.returns
 returns c =

@@ -1,19 +1,13 @@
-use borrow.Author.Tests.{not-true, not-false}
-use Rattle.laws.proofs.All.{alls}
-use Rattle.replay.specs.Requests.{kept}
+-- `replay::requests::kept` meets its contract.
+use borrow.Author.Tests.{tests}
 use borrow.Author.Rules.{rules}
+use Rattle.replay.proofs.Ranges.{all_told}
+use lib.ListN.{length}
+use Rattle.replay.specs.Requests.{is_kept, kept}
 use Rattle.replay.proofs.requests.kept.Goals as goal
 
-pub loop-i-init : goal.loop-i-init
-loop-i-init c = search (alls, rules)
-
-pub returns-then-not-is_kept : goal.returns-then-not-is_kept
-unfolding kept
-returns-then-not-is_kept c = search (alls, not-true, rules)
-
-pub loop-i-preserved : goal.loop-i-preserved
-loop-i-preserved c = search (alls, not-false, rules)
-
 pub returns : goal.returns
-unfolding kept
-returns c = search (alls, rules)
+unfolding kept is_kept
+returns c =
+    let a = c.args in
+    all_told (is_kept a.twins.now a.n) (length a.twins.now) _ _ _ c.all.ensures.ran (λ x b q k. search (rules, tests))

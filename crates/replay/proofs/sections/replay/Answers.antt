@@ -6,17 +6,16 @@ use borrow.Author.Rules.{rules}
 use Rattle.replay.proofs.sections.replay.Goals as goal
 use Rattle.replay.proofs.sections.replay.Goals.{then-agrees, else-agrees}
 
-pub loop-i-init : goal.loop-i-init
-loop-i-init c = (search rules, search rules, search rules, first_place _ _, search (picks, rules))
+pub loop-init : goal.loop-init
+loop-init c = (search rules, search rules, first_place _ _, search (picks, rules))
 
-pub loop-i-preserved : goal.loop-i-preserved
-loop-i-preserved c =
-    let l = c.loop-i in
-    let e = agreed_here _ _ l.i l.invariant.3 c.after-rest.ensures _ c.agrees.ensures in (
-      search rules,
+pub loop-preserved : goal.loop-preserved
+loop-preserved c =
+    let l = c.loop in
+    let e = agreed_here _ _ l.counter l.invariant.2 c.after-rest.ensures _ c.agrees.ensures in (
       elim c.if-agrees.branch [ then-agrees x ↦ omega arith | else-agrees x ↦ omega arith ],
       omega arith,
-      next_place _ _ l.i l.invariant.3 c.after-rest.ensures c.size-at.ensures.value,
+      next_place _ _ l.counter l.invariant.2 c.after-rest.ensures c.size-at.ensures.value,
       elim c.if-agrees.branch [ then-agrees x ↦ search (picks, rules) | else-agrees x ↦ search (picks, rules) ],
     )
 

@@ -1,5 +1,4 @@
 -- `table::words::dims_from` meets its contract: exponent by exponent.
-use Prim.Native.Nat.{◌≤◌, ◌-◌}
 use mathlib.Core.Path.{◌≡◌}
 use lib.ListN.{length, take}
 use Rattle.laws.specs.Ranges.{tab}
@@ -7,7 +6,4 @@ use Rattle.rules.specs.Table as T
 use Rattle.table.proofs.words.dims_from.Given as goal
 
 abbrev pub invariant-loop-b : goal.invariant-loop-b
-invariant-loop-b l = (l.b ≤ 12) × (length l.d.powers ≡ 12) × (take l.b l.d.powers ≡ tab (T.exponent_from l.t l.p) l.b)
-
-abbrev pub decreases-loop-b : goal.decreases-loop-b
-decreases-loop-b l = 12 - l.b
+invariant-loop-b l = (length l.d.powers ≡ 12) × (take l.b l.d.powers ≡ tab (T.exponent_from l.t l.p) l.b)

@@ -1,5 +1,5 @@
 -- `tokens::shape::walked` meets its contract.
-use Prim.Native.Nat.{◌-◌, ◌/◌, ◌≤◌}
+use Prim.Native.Nat.{◌/◌}
 use mathlib.Core.Path.{◌≡◌}
 use mathlib.Core.List.{[]}
 use lib.ListN.{length}
@@ -9,7 +9,4 @@ use Rattle.tokens.specs.Shown.{units, remaining}
 use Rattle.tokens.proofs.shape.walked.Given as goal
 
 abbrev pub invariant-loop-k : goal.invariant-loop-k
-invariant-loop-k l = (l.k ≤ l.n) × (l.n ≡ length l.bytes / 12) × (walk shape (remaining l.bytes l.k) l.k (units l.depth) ≡ walk shape (tokens_in l.bytes) 0 [])
-
-abbrev pub decreases-loop-k : goal.decreases-loop-k
-decreases-loop-k l = l.n - l.k
+invariant-loop-k l = (l.n ≡ length l.bytes / 12) × (walk shape (remaining l.bytes l.k) l.k (units l.depth) ≡ walk shape (tokens_in l.bytes) 0 [])

@@ -2,7 +2,7 @@
 use mathlib.Core.Path.{sym}
 use Rattle.rules.specs.Token.{token_by}
 use Rattle.tokens.specs.Shown.{made, token_of, unused}
-use Rattle.tokens.proofs.Listed.{token_fields, token_past}
+use Rattle.tokens.proofs.Listed.{token_past}
 use Rattle.tokens.proofs.token.fields_past.Goals as goal
 
 pub returns-then-token_count-k : goal.returns-then-token_count-k
@@ -10,9 +10,3 @@ unfolding made token_of unused token_by
 returns-then-token_count-k c =
     let a = c.args in
     sym (token_past a.bytes.now a.k (rw c.token_count.ensures at c.if-token_count-k.true))
-
-pub returns : goal.returns
-unfolding made
-returns c =
-    let a = c.args in
-    rw (c.byte_at.ensures, c.byte_at-2.ensures, c.u16_at.ensures, c.u32_at.ensures, c.u32_at-2.ensures, token_fields a.bytes.now a.k)

@@ -5,14 +5,14 @@ use Rattle.valid.proofs.Wholly.{wholly}
 use Rattle.valid.proofs.exponents.all_whole.Goals as goal
 
 pub loop-k-init : goal.loop-k-init
-loop-k-init c = (omega arith, ors_none _, ors_none _, ors_none _, ors_none _)
+loop-k-init c = (ors_none _, ors_none _, ors_none _, ors_none _)
 
 pub loop-k-preserved : goal.loop-k-preserved
 loop-k-preserved c =
     let l = c.loop-k in
-    (omega arith, ors_next _ l.k l.invariant.1 c.fourths-a.ensures, ors_next _ l.k l.invariant.2 c.fourths-b.ensures, ors_next _ l.k l.invariant.3 c.fourths-c.ensures, ors_next _ l.k l.invariant.4 c.fourths-d.ensures)
+    (ors_next _ l.k l.invariant.0 c.fourths-a.ensures, ors_next _ l.k l.invariant.1 c.fourths-b.ensures, ors_next _ l.k l.invariant.2 c.fourths-c.ensures, ors_next _ l.k l.invariant.3 c.fourths-d.ensures)
 
 pub returns : goal.returns
 returns c =
     let l = c.loop-k in
-    every_end _ l.k _ (wholly _ (λ i. omega (arith, c.shared_slice_known-1.given i)) l.k l.invariant.1 l.invariant.2 l.invariant.3 l.invariant.4) (omega arith) (omega arith)
+    every_end _ l.k _ (wholly _ (λ i. omega (arith, c.type_inv.t i)) l.k l.invariant.0 l.invariant.1 l.invariant.2 l.invariant.3) (omega arith) (omega arith)

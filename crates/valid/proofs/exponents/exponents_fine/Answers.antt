@@ -14,7 +14,7 @@ returns-then-word-ne1 c = search (cases, rules)
 pub returns-then-whole_from : goal.returns-then-whole_from
 unfolding T.exponents_fine
 returns-then-whole_from c =
-    let z = all_whole_fine c.args.t.now c.args.p (λ i. omega (arith, c.shared_slice_known-1.given i)) c.whole_from.ensures c.if-whole_from.true in
+    let z = all_whole_fine c.args.t.now c.args.p (λ i. omega (arith, c.type_inv.t i)) c.whole_from.ensures c.if-whole_from.true in
     search (cases, sym z, rules) depth 7
 
 pub loop-b-init : goal.loop-b-init

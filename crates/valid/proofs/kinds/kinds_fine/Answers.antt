@@ -5,4 +5,4 @@ use Rattle.valid.proofs.kinds.kinds_fine.Goals as goal
 
 pub returns : goal.returns
 returns c =
-    marks_left c.args.t.now (λ i. omega (arith, c.shared_slice_known-1.given i)) c.args.n (omega arith) c.all_whole.ensures (c.if-not-all_whole.false) c.all_marks.ensures
+    marks_left c.args.t.now (λ i. omega (arith, c.type_inv.t i)) c.args.n (omega arith) c.all_whole.ensures (c.if-not-all_whole.false) c.all_marks.ensures

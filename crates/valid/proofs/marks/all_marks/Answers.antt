@@ -1,5 +1,5 @@
 use Rattle.std.proofs.Common.{rules}
-use borrow.Author.Tests.{not-true, not-false}
+use borrow.Author.Tests.{not-false}
 use Rattle.laws.proofs.All.{alls}
 use Rattle.valid.proofs.marks.all_marks.Goals as goal
 
@@ -7,7 +7,7 @@ pub loop-k-init : goal.loop-k-init
 loop-k-init c = search (alls, rules)
 
 pub returns-then-not-marks_within : goal.returns-then-not-marks_within
-returns-then-not-marks_within c = search (alls, not-true, rules)
+returns-then-not-marks_within c = search (alls, rules)
 
 pub loop-k-preserved : goal.loop-k-preserved
 loop-k-preserved c = search (alls, not-false, rules)

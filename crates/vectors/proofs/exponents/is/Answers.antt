@@ -3,5 +3,5 @@ use mathlib.Core.Path.{sym, ◌∙◌}
 use Rattle.dimension.proofs.ExponentLaws.{equal_same}
 use Rattle.vectors.proofs.exponents.is.Goals as goal
 
-pub returns-in-Is : goal.returns-in-Is
-returns-in-Is c t = let e = equal_same _ _ (sym c.equals.ensures ∙ t) in cc
+pub returns-in-Some : goal.returns-in-Some
+returns-in-Some c t = let e = equal_same _ _ (sym c.equals.ensures ∙ t) in cc

@@ -1,11 +1,6 @@
--- `vectors::images::agreed` meets its contract.
-use Prim.Native.Nat.{◌≤◌, ◌-◌}
-use mathlib.Core.Path.{◌≡◌}
-use lib.ListN.{length}
+-- `vectors::images::agreed` meets its contract. The loop's invariant: no more agree than were looked at.
+use Prim.Native.Nat.{◌≤◌}
 use Rattle.vectors.proofs.images.agreed.Given as goal
 
 abbrev pub invariant-loop-i : goal.invariant-loop-i
-invariant-loop-i l = (l.i ≤ l.n) × (l.count ≤ l.i) × (length l.image ≡ length l.initial.image)
-
-abbrev pub decreases-loop-i : goal.decreases-loop-i
-decreases-loop-i l = l.n - l.i
+invariant-loop-i l = l.count ≤ l.i

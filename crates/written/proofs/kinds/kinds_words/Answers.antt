@@ -4,4 +4,4 @@ use Rattle.written.proofs.kinds.kinds_words.Goals as goal
 
 pub returns : goal.returns
 returns c =
-    kinds_told _ _ _ _ _ _ c.requires.image_bound c.kind_count-n.ensures c.links_at-differences.ensures c.links_at-targets.ensures c.firsts-named.ensures c.firsts-rates.ensures c.kinds_by.ensures
+    kinds_told _ _ _ _ _ _ c.args.keyed.few c.kind_count-n.ensures c.links_at-differences.ensures c.links_at-targets.ensures c.firsts-named.ensures c.firsts-rates.ensures c.kinds_by.ensures

@@ -1,7 +1,0 @@
--- `registry::sums::added` meets its contract.
-use borrow.Author.Rules.{rules}
-use Rattle.registry.proofs.Answered.{summed}
-use Rattle.registry.proofs.sums.added.Goals as goal
-
-pub returns : goal.returns
-returns c = search (summed, rules)

@@ -1,7 +1,0 @@
--- `table::kinds::dimensionless` meets its contract.
-use Rattle.rules.specs.Table as T
-use Rattle.table.proofs.kinds.dimensionless.Goals as goal
-
-pub returns : goal.returns
-unfolding T.kinds_of
-returns c = cc

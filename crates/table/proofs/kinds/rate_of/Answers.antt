@@ -1,7 +1,0 @@
--- `table::kinds::rate_of` meets its contract.
-use borrow.Author.Rules.{rules}
-use Rattle.table.proofs.Fields.{fields}
-use Rattle.table.proofs.kinds.rate_of.Goals as goal
-
-pub returns : goal.returns
-returns c = search (fields, rules)
