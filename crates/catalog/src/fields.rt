@@ -46,7 +46,8 @@ fn exponents_at(image: &[u8], p: u32) -> Dimensions
     Dimensions { powers }
 }
 
-// Whether the kind at p declares dimensions.
+// Whether the kind at p declares dimensions. The definition has one Option for this and the dimensions. They are asked apart, since the words of a
+// kind hold a flag in one place and exponents, or dimension one's, in another: `written` would take the Option apart again at each.
 #[tactic(auto, unfolding(rules::specs::Catalog::kind_from, rules::specs::Catalog::dims_at))]
 pub fn is_given(image: &[u8], p: u32) -> bool
     ensures { result ≡ is_some (kind_from image.now p).dims }
@@ -72,7 +73,8 @@ pub fn grade_at(image: &[u8], p: u32) -> u8
     byte_at(image, p as usize + 145)
 }
 
-// The operation of a row: 0 Mul, 1 Div, 2 Dot, 3 Wedge.
+// The operation of a row: 0 Mul, 1 Div, 2 Dot, 3 Wedge. Not `Op::from_code` of `error`: that reads the code of a token, which is 4 to 7 for these, and
+// answers with none for others, while every byte of a row is one of the four.
 #[tactic(auto, unfolding(rules::specs::Kinds::op_of))]
 fn op_of(code: u8) -> ProductOp
     ensures { result ≡ op_of code }

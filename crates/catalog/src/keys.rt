@@ -26,7 +26,8 @@ fn key_part(image: &[u8], p: u32, i: usize) -> u32
     (i as u32 + 1) * (u16_at(image, p as usize + 2 * i) as u32)
 }
 
-// The same of an id that is there.
+// The same of an id that is there, each byte read by itself, as in `numbers`, where a line says why; what it saves is said at
+// `is_blank`.
 #[tactic(auto, unfolding(crate::specs::Keys::key_part, rules::specs::Bytes::le2))]
 fn part_of(id: &[u8; 32], i: usize) -> u32
     requires { i < 16 }
@@ -116,7 +117,7 @@ fn named_by(image: &[u8], keys: &[u32], p: u32, key: u32, k: u16) -> bool
 }
 
 // Whether one of the sixteen keys from place `from` on, all of them there, is this one. None of them ends the loop, so that several are compared at
-// once.
+// once: with the loop of `find_by` alone kindcheck over the catalog large takes 3.00 million instructions in place of 2.07.
 #[tactic(auto, using(laws::proofs::FirstFrom::anys), unfolding(crate::specs::Keys::key_fits))]
 fn any_of_sixteen(keys: &[u32], from: usize, key: u32) -> bool
     requires { from + 16 ≤ length keys.now }

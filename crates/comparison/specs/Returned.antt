@@ -1,5 +1,5 @@
 -- Demand 3, "the corollary in words of the functions: what two runs of the proved functions return": of what `run_both` returns for two images and a
--- formula. proofs/Returned shows it (`demand3_returned`).
+-- formula. proofs/Demand3Returned shows it (`demand3_returned`).
 use Rattle.std.specs.Prelude.{ℕ, ◌≡◌, Bool, true, List, ◌∷◌, ◌++◌, ltb, length}
 use Rattle.std.specs.declared.result.Result.{Result}
 use Rattle.std.specs.declared.result.Result.TheVariants.{Ok, Err}

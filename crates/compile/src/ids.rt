@@ -1,4 +1,5 @@
-// 10 and 11: every kind has an id of its own. The keys are those of the image's kinds.
+// 10 and 11: every kind has an id of its own. The keys are those of the image's kinds. That k is a kind of the image is said by a `requires` in both
+// functions: a type of such numbers would hold the image too, and k is a plain number everywhere else.
 ghost use Rattle.std.specs.Prelude.{◌≡◌, ◌<◌};
 ghost use Rattle.rules.specs.Layout as layout;
 ghost use Rattle.rules.specs.Catalog.{catalog_in};

@@ -1,4 +1,5 @@
-// 12 to 16: differences, the dimensionless and the time kind.
+// 12 to 16: differences, the dimensionless and the time kind. That d or k is a kind of the image is said by a `requires`: a type of such numbers would
+// hold the image too, and both are plain numbers everywhere else.
 ghost use Rattle.std.specs.Prelude.{◌≡◌, ◌<◌};
 ghost use Rattle.rules.specs.Layout as layout;
 ghost use Rattle.rules.specs.Table as T;
@@ -41,7 +42,9 @@ fn check_named(c: Declared, k: u16, d: u16) -> Result<(), Fault>
     Ok(())
 }
 
-// The difference of kind k.
+// The difference of kind k. This rule, those of the dimensionless and the time kind, and that of rates ask alike: is the id blank, what does it name,
+// 12 where it names nothing. One function for the four would take five arguments (whether the id is blank, what it names, whom 12 names, where it
+// refuses, and a closure for the kind) in the place of these few lines.
 #[tactic(auto, using(crate::proofs::Differences::differences))]
 pub(crate) fn check_difference(c: Declared, k: u16) -> Result<(), Fault>
     requires k_bound { k < layout.kind_count c.image.now }

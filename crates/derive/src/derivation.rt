@@ -45,8 +45,8 @@ fn joined_at(t: &[u32], l: u16, op: ProductOp, r: u16) -> Dimensions
     joined(op, dims_of(t, l), dims_of(t, r))
 }
 
-// The grade of a product: 19 left, 19 right, 23 left, 23 right, 24. No dimensions are made for it.
-
+// The grade of a product: 19 left, 19 right, 23 left, 23 right, 24. No dimensions are made for it, so the flag that they are there is asked alone.
+#[tactic(auto, using(crate::proofs::Derives::derives))]
 pub fn ruled(t: &[u32], l: u16, op: ProductOp, r: u16) -> Result<u32, Error>
     ensures { result ≡ ruled_as (rule.derive (kinds_of t.now) l op r) }
 {

@@ -19,6 +19,7 @@ pub enum Several {
     Nothing,
 }
 
+// Dimensions and a grade go one by one, as `resolve_by` is handed them and as `fitting` takes them: a `Graded` would be made and taken apart here.
 fn fitting(t: &[u32], d: Dimensions, g: u32) -> Several
     ensures { result ≡ several_of (K.candidates (kinds_of t.now) (at d g)) }
 {

@@ -32,7 +32,8 @@ fn print_numbers<T: Copy + Into<u64>>(rt: &HostRuntime, numbers: &[T]) -> io::Re
     println!(rt;)
 }
 
-// Whether an answer is a refusal that lists twins, 44 or 48.
+// Whether an answer is a refusal that lists twins, 44 or 48. These are read back out of words: the calls hand out nothing else, and so this program sees
+// what one in another language does.
 #[tactic(auto, using(laws::proofs::Cases::cases), unfolding(crate::specs::Listed::lists_twins))]
 fn lists_twins(what: u32, number: u32) -> bool
     ensures { result ≡ lists_twins what number }

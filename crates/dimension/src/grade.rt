@@ -16,7 +16,8 @@ pub enum ProductOp {
 // The grade of a scalar.
 const SCALAR: u8 = 0;
 
-// The grade of `a op b` stands at 4 a + b; 4 says that there is no single one. docs/GRADES.md prints them.
+// The grade of `a op b` stands at 4 a + b; 4 says that there is no single one. It stays a number here, and is an Option from `graded` on: 64 entries
+// of `Some(..)` and `None` would be harder to read beside docs/GRADES.md, which prints the tables, and no shorter.
 const MUL: [u8; 16] = [0, 1, 2, 3, 1, 4, 4, 4, 2, 4, 4, 4, 3, 4, 4, 4];
 
 const DIV: [u8; 16] = [0, 4, 4, 4, 1, 4, 4, 4, 2, 4, 4, 4, 3, 4, 4, 4];

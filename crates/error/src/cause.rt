@@ -38,6 +38,7 @@ pub enum Error {
     NoTable,
     NoKind(u16),
     KindMismatch(u16, u16),
+    // the code of the token, here and in NumberTerm: only handed out, and those of powers, absolute and compare are among them, which no `Op` is
     UnsupportedOperation(u8, u16, u16),
     // left, operation, right and how many kinds fit
     UnresolvedTwin(u16, ProductOp, u16, u16),

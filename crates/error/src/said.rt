@@ -7,7 +7,8 @@ use crate::cause::Error;
 use crate::op::op_code;
 use dimension::Dimensions;
 
-// A refusal's number, the dimensions that it returns, and the values after them, the first `count` of four.
+// A refusal's number, the dimensions that it returns, and the values after them, the first `count` of four. The count stands beside them since no
+// memory is asked for: four is the most that a refusal returns, and none returns more than its count says.
 #[derive(Clone, Copy)]
 pub struct Said {
     pub number: u32,
@@ -43,6 +44,8 @@ fn says_dims(number: u32, dims: Dimensions, grade: u32) -> Said
     }
 }
 
+// 65,535 is what document 01 returns for a kind that isn't there: a value that is handed out and that nothing here reads again. A product is handed
+// out as the code of its token for the same reason.
 #[tactic(auto, unfolding(crate::specs::Shown::said_of))]
 pub fn say(e: Error) -> Said
     ensures { result ≡ said_of e }

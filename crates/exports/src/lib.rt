@@ -100,7 +100,8 @@ pub fn kind_formula(
     write(&answer.map_or_else(fault_words, term_words), out)
 }
 
-// Which part of what is lent the report prints: of the image for a kind, of the word for a number.
+// Which part of what is lent the report prints: of the image for a kind, of the word for a number. `kinded` and `kind` are no `Option`, and an answer's
+// first word is a number: the C interface has neither.
 pub fn kind_report(image: &[u8], word: &[u8], kinded: bool, kind: u16, part: &mut [usize]) -> bool
     ensures value { result ≡ has_part_room part.old }
     ensures part_after { part.new ≡ part_written (part_words image.now word.now (term_by kinded kind)) part.old }

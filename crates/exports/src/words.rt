@@ -20,7 +20,7 @@ fn capped(n: usize) -> u32
     4294967295
 }
 
-// The first three words, and zeros.
+// The first three words, and zeros. The first says what the answer is, 0 to 3: a word of the C interface, not a type of the calls here.
 fn head(what: u32, which: u32, place: u32) -> [u32; 32]
     ensures { result ≡ padded (what ∷ which ∷ place ∷ []) }
 {

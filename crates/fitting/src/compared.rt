@@ -21,7 +21,8 @@ fn same_pair(t: &[u32], p: usize, w: &[u32], b: usize) -> bool
     (x == y) & (m == n)
 }
 
-// Whether the exponents from place p on are those of w. It ends at the first pair that differs.
+// Whether the exponents from place p on are those of w, for words that may be missing: they are lent, of any length. It ends at the first pair that
+// differs.
 #[tactic(auto, using(table::proofs::ExponentsInWords::sames))]
 fn same_from(t: &[u32], p: usize, w: &[u32]) -> bool
     requires { p < 4294967296 }
@@ -35,7 +36,8 @@ fn same_from(t: &[u32], p: usize, w: &[u32]) -> bool
     true
 }
 
-// Whether the 24 words from place p on, all of them there, are those of w. No word ends the loop, so that several are compared at once.
+// Whether the 24 words from place p on, all of them there, are those of w. No word ends the loop and no place is tested: a kind with all of its words
+// compared takes a search that lists or counts some 60 instructions.
 fn same_words(t: &[u32], p: usize, w: &[u32]) -> bool
     requires p_in_bounds { p + 24 ≤ length t.now }
     requires in_bounds { 24 ≤ length w.now }
@@ -77,7 +79,7 @@ fn is_there(w: &[u32], b: usize) -> bool
     word(w, 2 * b) != 0
 }
 
-// The place of the first numerator that is not zero, which tells most kinds apart; 0 where all are.
+// The place of the first numerator that is not zero; 0 where all are.
 #[tactic(auto, using(laws::proofs::First::scan), unfolding(crate::specs::Shown::pivot_of))]
 pub(crate) fn pivot(w: &[u32]) -> usize
     ensures { result ≡ pivot_of w.now }

@@ -10,7 +10,8 @@ use crate::kind::fits;
 use dimension::Dimensions;
 use table::{kind_count, words_of};
 
-// Lists those of the first n kinds that fit from the front of the lent list.
+// Lists those of the first n kinds that fit from the front of the lent list: there is no heap, so it has no length of its own. Where the next goes is
+// counted: of a list written through `iter_mut`, by `next` or zipped with the kinds that fit, nothing is known at the end, and the proof doesn't close.
 #[tactic(auto, using(laws::proofs::Picked::picks))]
 fn list(t: &[u32], w: &[u32], g: u32, n: u16, twins: &mut [u16])
     requires { n ≤ length twins.old }

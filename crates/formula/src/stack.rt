@@ -1,4 +1,5 @@
-// One token over the stack. Of the array's 32 terms the first `depth` are held, the last of them on top.
+// One token over the stack. Of the array's 32 terms the first `depth` are held, the last of them on top. The array with its depth beside is the one
+// that the scope document names: fixed memory, no heap.
 ghost use Rattle.std.specs.Prelude.{◌≡◌, length};
 ghost use Rattle.rules.specs.Formula as rule;
 ghost use Rattle.rules.specs.Table.{kinds_of, rows_of};

@@ -1,19 +1,29 @@
 // What a token makes of the terms it takes: a number, a kind or a refusal; who knows the token puts its place in.
-ghost use Rattle.std.specs.Prelude.{◌≡◌};
+ghost use Rattle.std.specs.Prelude.{◌≡◌, ℕ};
 ghost use Rattle.std.specs.declared.option.Option.TheVariants.{Some};
 ghost use Rattle.rules.specs.Arithmetic as arithmetic;
 ghost use Rattle.rules.specs.Formula as rule;
+ghost use Rattle.rules.specs.Refusal.{Answer};
 ghost use Rattle.rules.specs.Table.{kinds_of, rows_of};
 ghost use Rattle.registry.specs.Shown.{looked};
 ghost use Rattle.formula.specs.Shown.{made, term_of, unary_of, binary_of};
 
 use dimension::{ProductOp, Rational};
-use error::{Error, Op};
+use error::{Error, Op, op_code};
 use registry::{agree, combined, inexact_power, power, scaled};
 use table::kind_count;
 use tokens::{Binary, Unary};
 
-// A plain number, or a quantity of a kind.
+// The codes of the tokens that are no operation's; the operations have theirs by name. A code goes out in a refusal, as a number.
+const EXACT: u8 = 8;
+
+const INEXACT: u8 = 9;
+
+const ABSOLUTE: u8 = 10;
+
+const COMPARE: u8 = 11;
+
+// A plain number, or a quantity of a kind. No Option: a number is a term too and no missing kind, and the two names say what a term is.
 #[derive(Clone, Copy)]
 pub enum Term {
     Number,
@@ -31,15 +41,14 @@ pub(crate) fn kind_term(t: &[u32], k: u16) -> Result<Term, Error>
     Err(Error::NoKind(k))
 }
 
-// The codes are those of the tokens: 8, 9 and 10.
 #[tactic(auto, unfolding(rules::specs::Formula::one_kind))]
 fn one_kind(t: &[u32], u: Unary, k: u16) -> Result<u16, Error>
     ensures { result ≡ looked (rule.one_kind (kinds_of t.now) (unary_of u) k) }
 {
     match u {
-        Unary::Exact(e) => power(t, 8, k, e),
-        Unary::Inexact => inexact_power(t, 9, k),
-        Unary::Absolute => scaled(t, 10, k),
+        Unary::Exact(e) => power(t, EXACT, k, e),
+        Unary::Inexact => inexact_power(t, INEXACT, k),
+        Unary::Absolute => scaled(t, ABSOLUTE, k),
     }
 }
 
@@ -54,36 +63,36 @@ pub(crate) fn unary_term(t: &[u32], u: Unary, x: Term) -> Result<Term, Error>
     }
 }
 
+// A kind over a number: the kind, refused with the code of Div.
+fn over_number(t: &[u32], k: u16) -> Result<u16, Error>
+    ensures { result ≡ looked (arithmetic.scaled (kinds_of t.now) 5 k) }
+{
+    scaled(t, op_code(ProductOp::Div), k)
+}
+
 // A number over a kind: the kind's power -1, refused with the code of Div.
 fn inverse(t: &[u32], k: u16) -> Result<u16, Error>
     ensures { result ≡ looked (arithmetic.power (kinds_of t.now) 5 k (Some rule.minus_one)) }
 {
-    power(t, 5, k, Rational { num: -1, den: 1 })
+    power(t, op_code(ProductOp::Div), k, Rational { num: -1, den: 1 })
 }
 
-// A kind on the left, a number on the right: times and over a number scale; 49 for all else.
+// A kind and a number: times scales, over is the quotient, a closure since it isn't looked up for any other; 49 for all else.
 #[tactic(auto, unfolding(rules::specs::Formula::with_number, registry::specs::Shown::looked))]
-fn kind_with_number(t: &[u32], b: Binary, k: u16) -> Result<u16, Error>
-    ensures { result ≡ looked (rule.with_number (kinds_of t.now) (binary_of b) k (arithmetic.scaled (kinds_of t.now) 5 k)) }
+fn with_number<F: FnOnce() -> Result<u16, Error>>(
+    t: &[u32],
+    b: Binary,
+    k: u16,
+    quotient: F,
+) -> Result<u16, Error>
+    requires { F.IsAlwaysCallable quotient }
+    ensures { (q : Answer ℕ) → ((r : _) → F.post quotient r → r ≡ looked q) → result ≡ looked (rule.with_number (kinds_of t.now) (binary_of b) k q) }
 {
     match b {
-        Binary::Combine(Op::Product(ProductOp::Mul)) => scaled(t, 4, k),
-        Binary::Combine(Op::Product(ProductOp::Div)) => scaled(t, 5, k),
+        Binary::Combine(Op::Product(ProductOp::Mul)) => scaled(t, op_code(ProductOp::Mul), k),
+        Binary::Combine(Op::Product(ProductOp::Div)) => quotient(),
         Binary::Combine(op) => Err(Error::NumberTerm(op.code(), k)),
-        Binary::Compare => Err(Error::NumberTerm(11, k)),
-    }
-}
-
-// A number on the left, a kind on the right.
-#[tactic(auto, unfolding(rules::specs::Formula::with_number, registry::specs::Shown::looked))]
-fn number_with_kind(t: &[u32], b: Binary, k: u16) -> Result<u16, Error>
-    ensures { result ≡ looked (rule.with_number (kinds_of t.now) (binary_of b) k (arithmetic.power (kinds_of t.now) 5 k (Some rule.minus_one))) }
-{
-    match b {
-        Binary::Combine(Op::Product(ProductOp::Mul)) => scaled(t, 4, k),
-        Binary::Combine(Op::Product(ProductOp::Div)) => inverse(t, k),
-        Binary::Combine(op) => Err(Error::NumberTerm(op.code(), k)),
-        Binary::Compare => Err(Error::NumberTerm(11, k)),
+        Binary::Compare => Err(Error::NumberTerm(COMPARE, k)),
     }
 }
 
@@ -112,7 +121,7 @@ pub(crate) fn binary_term(
     match (x, y) {
         (Term::Number, Term::Number) => Ok(Term::Number),
         (Term::Kind(l), Term::Kind(r)) => two_kinds(t, rows, b, l, r).map(Term::Kind),
-        (Term::Kind(k), Term::Number) => kind_with_number(t, b, k).map(Term::Kind),
-        (Term::Number, Term::Kind(k)) => number_with_kind(t, b, k).map(Term::Kind),
+        (Term::Kind(k), Term::Number) => with_number(t, b, k, || over_number(t, k)).map(Term::Kind),
+        (Term::Number, Term::Kind(k)) => with_number(t, b, k, || inverse(t, k)).map(Term::Kind),
     }
 }

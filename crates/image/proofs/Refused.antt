@@ -1,6 +1,6 @@
 -- 1, 5, 2, 3, 4 in their order: what is answered at each refusal, and where there is none. Assumes nothing.
 use Prim.Native.Nat.{ℕ, ◌*◌, ◌/◌, ◌%◌, ◌≤◌, ◌<◌}
-use mathlib.Core.Path.{◌≡◌, sym, ◌∙◌, ap}
+use mathlib.Core.Path.{◌≡◌, refl, sym, ◌∙◌, ap}
 use mathlib.Core.Bool.{Bool, true, false, not, ◌||◌}
 use mathlib.Core.List.{List}
 use Rattle.std.specs.declared.option.Option.TheVariants.{None, Some}
@@ -13,6 +13,10 @@ use Rattle.laws.proofs.Cases.{or_neither}
 use Rattle.laws.proofs.FirstFrom.{from_start}
 use Rattle.rules.specs.Bytes.{le4}
 use Rattle.rules.specs.Layout.{byte_wrong}
+use Rattle.laws.specs.Out.{◌>>◌, refuse_if}
+use Rattle.rules.specs.Refusal as rule
+use Rattle.rules.specs.Refusal.{at}
+use Rattle.rules.specs.Table.{table_size, room_for}
 use Rattle.rules.specs.Image.{length_wrong, length_check, sum_wrong, readable, image_check, lent_check}
 use Rattle.std.specs.declared.result.Result.{Result}
 use Rattle.std.specs.declared.result.Result.TheVariants.{Ok, Err}
@@ -27,13 +31,38 @@ abbrev no : Error → ℕ → Result (Unit {0}) Fault
 no e p = Err (fault p e)
 
 module _ (s : List ℕ) where
-  pub length_refused : length_wrong s ≡ true → no (ImageLength (length s)) 0 ≡ fine (image_check s)
-  unfolding image_check length_check fine
+  pub length_refused : length_wrong s ≡ true → no (ImageLength (length s)) 0 ≡ fine (length_check s)
+  unfolding length_check fine
   length_refused e = rw e
 
-  pub lent_refused : (room : ℕ) → length_wrong s ≡ true → no (ImageLength (length s)) 0 ≡ fine (lent_check s room)
+  pub length_right : length_wrong s ≡ false → Ok tt ≡ fine (length_check s)
+  unfolding length_check fine
+  length_right e = rw e
+
+  -- what a length that is refused is, of either check, and that one that isn't is right
+  pub length_stops : {x : Fault} → Err x ≡ fine (length_check s) → Err x ≡ fine (image_check s)
+  unfolding image_check length_check fine
+  length_stops {x} h = go (length_wrong s) h
+    where
+      go : (b : Bool) → Err x ≡ fine (at 0 (refuse_if b (rule.ImageLength (length s)))) → Err x ≡ fine (at 0 (refuse_if b (rule.ImageLength (length s))) >> readable s)
+      go true h = h
+      go false h = cc
+
+  pub lent_stops : (room : ℕ) {x : Fault} → Err x ≡ fine (length_check s) → Err x ≡ fine (lent_check s room)
   unfolding lent_check length_check fine
-  lent_refused room e = rw e
+  lent_stops room {x} h = go (length_wrong s) h
+    where
+      go : (b : Bool) → Err x ≡ fine (at 0 (refuse_if b (rule.ImageLength (length s)))) → Err x ≡ fine (at 0 (refuse_if b (rule.ImageLength (length s))) >> (at 0 (room_for table_size room) >> readable s))
+      go true h = h
+      go false h = cc
+
+  pub right_length : {u : Unit {0}} → Ok u ≡ fine (length_check s) → length_wrong s ≡ false
+  unfolding length_check fine
+  right_length {u} h = go (length_wrong s) h
+    where
+      go : (b : Bool) → Ok u ≡ fine (at 0 (refuse_if b (rule.ImageLength (length s)))) → b ≡ false
+      go true h = cc
+      go false h = refl
 
   module _ (l : length_wrong s ≡ false) where
     pub image_readable : fine (readable s) ≡ fine (image_check s)
@@ -84,21 +113,33 @@ module _ (s : List ℕ) where
 
 -- ---- the same in the code's words: f and g are what its searches found, n its schema
 module _ (s : List ℕ) where
-  pub length_told : {x : Fault} → {t : Bool} → t ≡ true → t ≡ length_wrong s → x ≡ fault 0 (ImageLength (length s)) → Err x ≡ fine (image_check s)
+  pub length_told : {x : Fault} → {t : Bool} → t ≡ true → t ≡ length_wrong s → x ≡ fault 0 (ImageLength (length s)) → Err x ≡ fine (length_check s)
   length_told p e h = ap Err h ∙ length_refused s (sym e ∙ p)
 
-  pub readable_told : {a : Result (Unit {0}) Fault} → {t : Bool} → t ≡ false → t ≡ length_wrong s → a ≡ fine (readable s) → a ≡ fine (image_check s)
-  readable_told p e h = h ∙ image_readable s (sym e ∙ p)
+  pub length_fine : {t : Bool} → t ≡ false → t ≡ length_wrong s → Ok tt ≡ fine (length_check s)
+  length_fine p e = length_right s (sym e ∙ p)
 
-  module _ (room : ℕ) where
-    pub lent_length : {x : Fault} → {t : Bool} → t ≡ true → t ≡ length_wrong s → x ≡ fault 0 (ImageLength (length s)) → Err x ≡ fine (lent_check s room)
-    lent_length p e h = ap Err h ∙ lent_refused s room (sym e ∙ p)
+  -- a is the answer about the length
+  module _ {a : Result (Unit {0}) Fault} (e : a ≡ fine (length_check s)) where
+    pub image_stops : {x : Fault} → a ≡ Err x → Err x ≡ fine (image_check s)
+    image_stops p = length_stops s (sym p ∙ e)
 
-    pub lent_room : {x : Fault} → {t : Bool} → t ≡ false → t ≡ length_wrong s → room < 9296 → x ≡ fault 0 (Short room) → Err x ≡ fine (lent_check s room)
-    lent_room p e r h = ap Err h ∙ room_refused s (sym e ∙ p) room r
+    pub room_stops : (room : ℕ) {x : Fault} → a ≡ Err x → Err x ≡ fine (lent_check s room)
+    room_stops room p = lent_stops s room (sym p ∙ e)
 
-    pub lent_told : {a : Result (Unit {0}) Fault} → {t : Bool} → t ≡ false → t ≡ length_wrong s → 9296 ≤ room → a ≡ fine (readable s) → a ≡ fine (lent_check s room)
-    lent_told p e r h = h ∙ lent_readable s (sym e ∙ p) room r
+    module _ {u : Unit {0}} (p : a ≡ Ok u) where
+      pub known_right : length_wrong s ≡ false
+      known_right = right_length s (sym p ∙ e)
+
+      pub readable_told : {b : Result (Unit {0}) Fault} → b ≡ fine (readable s) → b ≡ fine (image_check s)
+      readable_told h = h ∙ image_readable s known_right
+
+      module _ (room : ℕ) where
+        pub lent_room : {x : Fault} → room < 9296 → x ≡ fault 0 (Short room) → Err x ≡ fine (lent_check s room)
+        lent_room r h = ap Err h ∙ room_refused s known_right room r
+
+        pub lent_told : {b : Result (Unit {0}) Fault} → 9296 ≤ room → b ≡ fine (readable s) → b ≡ fine (lent_check s room)
+        lent_told r h = h ∙ lent_readable s known_right room r
 
   module _ (l : length_wrong s ≡ false) {f : Option ℕ} (e : f ≡ first (sum_wrong s) (length s / 512)) where
     pub block_told : {x : Fault} → {b : ℕ} → f ≡ Some b → x ≡ fault b (WrongBlock b) → Err x ≡ fine (readable s)
@@ -116,15 +157,12 @@ module _ (s : List ℕ) where
         fine_told p = image_fine s l (nothing_none _ q e) (sym u ∙ v) (nothing_none _ p d)
 
 -- ---- what the parts ask of the length
-pub told_false : {t w : Bool} → t ≡ false → t ≡ w → w ≡ false
-told_false p e = sym e ∙ p
-
 pub few_sums : (s : List ℕ) → length_wrong s ≡ false → length s / 512 ≤ 1000
 few_sums s l = omega (arith, few_blocks s l)
 
 pub few_layouts : (s : List ℕ) → length_wrong s ≡ false → length s / 512 ≤ 200
 few_layouts s l = omega (arith, few_blocks s l)
 
-pub ruleset lengths = (told_false, few_sums, few_layouts)
+pub ruleset lengths = (known_right, few_sums, few_layouts)
 
-pub ruleset refusals = (length_told, readable_told, lent_length, lent_room, lent_told, block_told, schema_told, byte_told, fine_told)
+pub ruleset refusals = (length_told, length_fine, image_stops, room_stops, readable_told, lent_room, lent_told, block_told, schema_told, byte_told, fine_told)

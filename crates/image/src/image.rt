@@ -1,6 +1,6 @@
 // Refusals 1, 5, 2, 3 and 4: what an image and the table lent for it are refused for.
 ghost use Rattle.std.specs.Prelude.{◌≡◌, false};
-ghost use Rattle.rules.specs.Image.{length_wrong, readable, image_check, lent_check};
+ghost use Rattle.rules.specs.Image.{length_wrong, length_check, readable, image_check, lent_check};
 ghost use Rattle.error.specs.Shown.{fine};
 
 use crate::blocks::wrong_among;
@@ -14,6 +14,17 @@ fn length_wrong(image: &[u8]) -> bool
 {
     let n = image.len();
     (n == 0) | (n % 512 != 0) | (61952 < n)
+}
+
+// 1: the length of the image.
+#[tactic(auto, using(crate::proofs::Refused::refusals))]
+fn check_length(image: &[u8]) -> Result<(), Fault>
+    ensures { result ≡ fine (length_check image.now) }
+{
+    if length_wrong(image) {
+        return Err(Error::ImageLength(image.len()).at(0));
+    }
+    Ok(())
 }
 
 // 2, 3, 4: the lowest wrong block, the schema, the lowest wrong byte.
@@ -37,24 +48,20 @@ fn check_readable(image: &[u8]) -> Result<(), Fault>
 }
 
 // 1, 2, 3, 4: whether the image can be read, whatever table is lent.
-#[tactic(auto, using(crate::proofs::Refused::refusals))]
+#[tactic(auto, using(crate::proofs::Refused::refusals, crate::proofs::Refused::lengths))]
 pub fn check_image(image: &[u8]) -> Result<(), Fault>
     ensures { result ≡ fine (image_check image.now) }
 {
-    if length_wrong(image) {
-        return Err(Error::ImageLength(image.len()).at(0));
-    }
+    check_length(image)?;
     check_readable(image)
 }
 
 // 1, 5, 2, 3, 4: the image, and the length of the table lent for its compilation.
-#[tactic(auto, using(crate::proofs::Refused::refusals))]
+#[tactic(auto, using(crate::proofs::Refused::refusals, crate::proofs::Refused::lengths))]
 pub fn check_lent(image: &[u8], room: usize) -> Result<(), Fault>
     ensures { result ≡ fine (lent_check image.now room) }
 {
-    if length_wrong(image) {
-        return Err(Error::ImageLength(image.len()).at(0));
-    }
+    check_length(image)?;
     if room < 9296 {
         return Err(Error::Short(room).at(0));
     }

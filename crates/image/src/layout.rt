@@ -18,7 +18,7 @@ fn id_byte_wrong(s: &[u8], p: usize, i: usize) -> bool
     (x != 0) & ((x < 33) | (126 < x) | ((0 < i) & !filled_before(s, p + i)))
 }
 
-// The same of an id that lies within the image.
+// The same of an id that lies within the image: the test of a place that `byte_at` has would keep the loop over them from looking at many at once.
 #[tactic(auto, using(crate::proofs::Ids::in_id_bytes))]
 fn wrong_within(s: &[u8], p: usize, i: usize) -> bool
     requires p_nonzero { (0 < p) × (p + 32 ≤ length s.now) }
@@ -30,7 +30,8 @@ fn wrong_within(s: &[u8], p: usize, i: usize) -> bool
     (x != 0) & ((x < 33) | (126 < x) | ((0 < i) & (before == 0)))
 }
 
-// Whether a byte of an id that lies within the image is wrong. No byte ends the loop, so that many are looked at at once.
+// Whether a byte of an id that lies within the image is wrong. No byte ends the loop, so that many are looked at at once, as in
+// `any_filled`, where it is counted what that saves.
 #[tactic(auto, using(laws::proofs::FirstFrom::anys))]
 fn any_wrong(s: &[u8], p: usize) -> bool
     requires { (0 < p) × (p + 32 ≤ length s.now) }
@@ -196,7 +197,8 @@ fn held(n: usize, from: usize, m: usize) -> usize
     m
 }
 
-// The head of a block at p: its type and the number of its records.
+// The head of a block at p: its type and the number of its records. The type is the byte that stands there, 1 for kinds and 2 for rows: it is only
+// compared, and an enum would be turned into this number for that.
 #[tactic(auto, unfolding(crate::specs::Shown::head_at))]
 fn head_fault(s: &[u8], p: usize, kind: u8, records: usize) -> Option<usize>
     requires { p < 300000 }

@@ -19,7 +19,8 @@ pub(crate) fn filled_before(s: &[u8], i: usize) -> bool
     filled(s, i.saturating_sub(1))
 }
 
-// Whether one of the n bytes from p on, all of them there, is not zero. No byte ends the loop, so that many are looked at at once.
+// Whether one of the n bytes from p on, all of them there, is not zero. No byte ends the loop, so that many are looked at at once: with the
+// plain loop alone, here and in `id_fault`, kindcheck over the catalog large takes 3.67 million instructions in place of 2.07.
 #[tactic(auto, using(laws::proofs::FirstFrom::anys), unfolding(rules::specs::Layout::filled))]
 fn any_filled(s: &[u8], p: usize, n: usize) -> bool
     requires { p + n ≤ length s.now }

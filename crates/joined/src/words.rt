@@ -14,12 +14,7 @@ use table::{Exponents, dims_of, words_of};
 pub fn is_quotient(op: ProductOp) -> bool
     ensures { result ≡ same_op op Div }
 {
-    match op {
-        ProductOp::Mul => false,
-        ProductOp::Div => true,
-        ProductOp::Dot => false,
-        ProductOp::Wedge => false,
-    }
+    op == ProductOp::Div
 }
 
 // Exponents are added, in a quotient subtracted.
@@ -33,7 +28,8 @@ pub fn joined(op: ProductOp, a: Dimensions, b: Dimensions) -> Dimensions
     a.product(b).unwrap_or(Dimensions::one())
 }
 
-// The numerator of exponent i: none of the sums and differences of such whole numbers is over the limits.
+// The numerator of exponent i: none of the sums and differences of such whole numbers is over the limits. `div` stays a flag: a closure would have
+// to require that its two numbers are so small, which here their own laws show, so it is no plainer.
 #[tactic(auto, using(crate::proofs::Sums::minus_fits, crate::proofs::Sums::plus_fits))]
 fn word_by(a: Whole, div: bool, b: Whole, i: usize) -> u32
     requires { i < 12 }

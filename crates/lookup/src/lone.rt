@@ -62,7 +62,7 @@ fn answered(t: &[u32], looked: Result<u16, Error>, twins: &mut [u16]) -> Result<
     answer
 }
 
-// Two kinds combined by the code of a token, 2 to 7.
+// Two kinds combined by the code of a token, 2 to 7. The code is lent as a number: an enum would ask more of a caller.
 #[tactic(auto, using(crate::proofs::Whole::wholes))]
 pub fn combine(
     table: &[u32],
@@ -78,6 +78,8 @@ pub fn combine(
     answered(table, combined(table, rows, twins, code, l, r), twins)
 }
 
+// The numerator and denominator are no `Rational` before they are reduced, which may be refused. 8 is the code of a token that is an exact power, 9 of
+// one that is inexact: what 43 returns.
 #[tactic(auto, using(crate::proofs::Ordered::raising))]
 fn raised_exactly(t: &[u32], k: u16, num: i32, den: u32) -> Result<u16, Error>
     ensures { result ≡ looked (power_by (kinds_of t.now) k (lone.exact num den)) }

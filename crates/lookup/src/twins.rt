@@ -20,7 +20,8 @@ pub(crate) enum Origin {
     Power(u16, Rational),
 }
 
-// The operation whose token has this code.
+// The product whose token has this code, 4 to 7, which the caller lends as a number. Any other counts as Wedge, with no Option: by it a row is looked
+// for, sums read none, and the lookup refuses a code that is no operation's. The `op_of` of `catalog` is no twin: it reads a row's word, 0 to 3.
 #[tactic(auto, using(crate::proofs::Named::op_else), unfolding(crate::specs::Shown::op_by))]
 pub fn op_of(code: u8) -> ProductOp
     ensures { result ≡ op_by code }

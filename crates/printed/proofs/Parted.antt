@@ -1,5 +1,5 @@
 -- The two parts of the input. Assumes nothing.
-use Prim.Native.Nat.{ℕ, ◌+◌, ◌*◌, ◌/◌, ◌<◌, ◌≤◌}
+use Prim.Native.Nat.{ℕ, ◌+◌, ◌*◌, ◌/◌, min}
 use mathlib.Core.Path.{◌≡◌, ◌∙◌, ap}
 use mathlib.Core.List.{List}
 use native.Mathlib.Omega.{arith}
@@ -9,11 +9,7 @@ use Rattle.rules.specs.Layout.{kind_count, row_count}
 use Rattle.rules.specs.Report.{image_length, image_part, formula_part}
 
 module _ (s : List ℕ) {k r : ℕ} (a : k ≡ kind_count s) (b : r ≡ row_count s) where
-  pub length_most : 121 < 1 + (k + 2) / 3 + (r + 4) / 5 → 61952 ≡ image_length s
-  unfolding image_length
-  length_most h = rw (← a, ← b) (omega (arith, h))
-
-  pub length_told : 1 + (k + 2) / 3 + (r + 4) / 5 ≤ 121 → 512 * (1 + (k + 2) / 3 + (r + 4) / 5) ≡ image_length s
+  pub length_told : {n : ℕ} → n ≡ min (1 + (k + 2) / 3 + (r + 4) / 5) 121 → 512 * n ≡ image_length s
   unfolding image_length
   length_told h = rw (← a, ← b) (omega (arith, h))
 
@@ -26,4 +22,4 @@ module _ (s : List ℕ) {n : ℕ} (e : n ≡ image_length s) {r : List ℕ} wher
       let l = length-drop n s in
       h ∙ take_all (length s) (drop n s) (omega (arith, l)) ∙ ap (λ (k : ℕ). drop k s) e
 
-pub ruleset lengths = (length_most, length_told)
+pub ruleset lengths = (length_told)

@@ -13,10 +13,7 @@ fn image_length(input: &[u8]) -> usize
     let kinds = kind_count(input) as usize;
     let rows = row_count(input) as usize;
     let blocks = 1 + (kinds + 2) / 3 + (rows + 4) / 5;
-    if 121 < blocks {
-        return 61952;
-    }
-    512 * blocks
+    512 * blocks.min(121)
 }
 
 pub fn image_part(input: &[u8]) -> &[u8]

@@ -10,6 +10,7 @@ pub fn read_full<R: Read>(reader: &mut R, buffer: &mut [u8]) -> io::Result<usize
     ensures { IfOk result (λ n. n ≤ length buffer.new) }
 {
     let mut at = 0;
+    // Until the buffer is full or nothing is left: how many reads that takes isn't known before, and a `for` needs no measure of what a reader has left.
     for _ in 0..u64::MAX {
         if at == buffer.len() {
             break;

@@ -20,7 +20,7 @@ pub fn combined(t: &[u32], rows: &[u32], op: Op, l: u16, r: u16) -> Result<u16, 
     }
 }
 
-// 2 Add, 3 Sub, 4 Mul, 5 Div, 6 Dot, 7 Wedge; any other code is 50.
+// 2 Add, 3 Sub, 4 Mul, 5 Div, 6 Dot, 7 Wedge; any other code is 50. The code is lent as a number: an enum would ask more of a caller.
 #[tactic(auto, using(crate::proofs::Coded::codes))]
 pub fn combine(t: &[u32], rows: &[u32], code: u8, l: u16, r: u16) -> Result<u16, Error>
     ensures { result ≡ looked (combine_by (kinds_of t.now) (rows_of rows.now) code l r) }

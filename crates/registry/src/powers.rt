@@ -46,7 +46,7 @@ fn raised_from(t: &[u32], k: u16, e: Rational, d: Dimensions) -> Result<u16, Err
     }
 }
 
-// 46, 19, 28, then the kind, 47 or 48.
+// 46, 19, 28, then the kind, 47 or 48. The words of a table hold the flag for 19 apart from the dimensions, and `table` reads them by two calls.
 #[tactic(auto, using(crate::proofs::Raised::powers))]
 fn raised(t: &[u32], k: u16, e: Rational) -> Result<u16, Error>
     ensures { result ≡ looked (rule.raised (kinds_of t.now) k e) }
@@ -61,7 +61,8 @@ fn raised(t: &[u32], k: u16, e: Rational) -> Result<u16, Error>
     raised_from(t, k, e, dims_of(t, k))
 }
 
-// 43 for a point; exponent one gives the kind. The code is the token's.
+// 43 for a point; exponent one gives the kind. The code is the token's, lent as a number: an enum would ask more of a caller. 43 returns 65,535 for
+// the kind that isn't there.
 #[tactic(auto, using(crate::proofs::Raised::powers))]
 pub fn power(t: &[u32], code: u8, k: u16, e: Rational) -> Result<u16, Error>
     ensures { result ≡ looked (rule.power (kinds_of t.now) code k (Some e)) }
@@ -75,7 +76,7 @@ pub fn power(t: &[u32], code: u8, k: u16, e: Rational) -> Result<u16, Error>
     raised(t, k, e)
 }
 
-// 43: no kind has an inexact power.
+// 43: no kind has an inexact power. It returns 65,535 for the kind that isn't there.
 #[tactic(auto, using(crate::proofs::Raised::powers))]
 pub fn inexact_power(t: &[u32], code: u8, k: u16) -> Result<u16, Error>
     ensures { result ≡ looked (rule.power (kinds_of t.now) code k None) }

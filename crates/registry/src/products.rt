@@ -1,5 +1,7 @@
 // Products of two kinds: one derivation, and one search for the kinds that fit. The kind is known, the only one that fits, or named by the row for
 // this very left, operation and right.
+// Left, operation and right go one by one, here and in the crates beside: the scope's own calls name them so, and a struct of the three would be made
+// and taken apart at each call. So do the words of a product and its grade, as the calls of `fitting` take them.
 ghost use Rattle.std.specs.Prelude.{◌≡◌};
 ghost use Rattle.laws.specs.Options.{found};
 ghost use Rattle.std.specs.declared.result.Result.TheVariants.{Ok, Err};

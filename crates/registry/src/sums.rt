@@ -4,7 +4,7 @@ ghost use Rattle.rules.specs.Arithmetic as rule;
 ghost use Rattle.rules.specs.Table.{kinds_of};
 ghost use Rattle.registry.specs.Shown.{looked};
 
-use error::Error;
+use error::{Error, Op};
 use table::{difference_of, is_point};
 
 // k where the kinds agree.
@@ -18,13 +18,14 @@ pub fn agree(expected: u16, actual: u16, k: u16) -> Result<u16, Error>
     Err(Error::KindMismatch(expected, actual))
 }
 
-// What is added to a point is a difference of it, on either side; 43 for two points.
+// What is added to a point is a difference of it, on either side; 43 for two points. `minus` is another rule over the same four cases: a function for
+// both would have the two that differ as parameters, which is no plainer.
 #[tactic(auto, unfolding(rules::specs::Arithmetic::sum_by, crate::specs::Shown::looked))]
 fn plus(l: u16, r: u16, dl: Option<u16>, dr: Option<u16>) -> Result<u16, Error>
     ensures { result ≡ looked (rule.sum_by rule.Add dl dr l r) }
 {
     match (dl, dr) {
-        (Some(d), Some(e)) => Err(Error::UnsupportedOperation(2, l, r)),
+        (Some(d), Some(e)) => Err(Error::UnsupportedOperation(Op::Add.code(), l, r)),
         (Some(d), None) => agree(d, r, l),
         (None, Some(e)) => agree(e, l, r),
         (None, None) => agree(l, r, l),
@@ -39,7 +40,7 @@ fn minus(l: u16, r: u16, dl: Option<u16>, dr: Option<u16>) -> Result<u16, Error>
     match (dl, dr) {
         (Some(d), Some(e)) => agree(l, r, d),
         (Some(d), None) => agree(d, r, l),
-        (None, Some(e)) => Err(Error::UnsupportedOperation(3, l, r)),
+        (None, Some(e)) => Err(Error::UnsupportedOperation(Op::Sub.code(), l, r)),
         (None, None) => agree(l, r, l),
     }
 }
@@ -58,7 +59,8 @@ pub fn subtracted(t: &[u32], l: u16, r: u16) -> Result<u16, Error>
     minus(l, r, difference_of(t, l), difference_of(t, r))
 }
 
-// Times or over a number, or without its sign: what no point can be. The code is the token's.
+// Times or over a number, or without its sign: what no point can be. The code is the token's, lent as a number: an enum would ask more of a caller.
+// 43 returns 65,535 for the kind that isn't there.
 #[tactic(auto, using(crate::proofs::Answered::answered))]
 pub fn scaled(t: &[u32], code: u8, k: u16) -> Result<u16, Error>
     ensures { result ≡ looked (rule.scaled (kinds_of t.now) code k) }

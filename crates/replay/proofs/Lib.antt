@@ -2,3 +2,4 @@
 mod Asked
 mod Compared
 mod Ranges
+mod Widened

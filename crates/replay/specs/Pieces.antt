@@ -1,13 +1,10 @@
--- What a stored line says of the line that kindcheck prints, and the answer of a section of compilations or of lines.
+-- What a stored line says of the line that kindcheck prints.
 use Rattle.std.specs.Prelude.{ℕ, ◌+◌, Bool, ◌&&◌, List, eqb, drop}
 use Rattle.laws.specs.Ranges.{all}
 use Rattle.rules.specs.Bytes.{byte, le2}
 use Rattle.rules.specs.Report.{kindcheck}
 use Rattle.printed.specs.Shown.{written}
 use Rattle.printed.specs.declared.text.Line.{Line}
-use Rattle.replay.specs.Compiled.{compiled_so}
-use Rattle.replay.specs.declared.pieces.Pieces.{Pieces}
-use Rattle.replay.specs.declared.pieces.Pieces.TheVariants.{Compilations, Lines}
 
 unfoldable pub byte_as : List ℕ → List ℕ → ℕ → Bool
 byte_as s t i = eqb (byte s i) (byte t i)
@@ -22,7 +19,3 @@ printed_so s input = line_as s (written (kindcheck input))
 
 unfoldable pub line_size : List ℕ → ℕ
 line_size s = 2 + le2 s 0
-
-unfoldable pub agreed_on : Pieces → List ℕ → List ℕ → Bool
-agreed_on Compilations s input = compiled_so s input
-agreed_on Lines s input = printed_so s input

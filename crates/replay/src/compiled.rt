@@ -77,6 +77,7 @@ fn are_rows(s: &[u8], t: &[u32]) -> bool
 fn are_counts(s: &[u8], t: &[u32]) -> bool
     ensures { result ≡ C.counts_as s.now t.now }
 {
+    // 3 begins a compilation in the files (docs/VECTORS.md).
     (u32_at(s, 0) == 3) & is_pair(t, u16_at(s, 4) as u32, u16_at(s, 6) as u32)
 }
 

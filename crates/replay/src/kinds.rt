@@ -3,6 +3,7 @@
 ghost use Rattle.std.specs.Prelude.{◌≡◌};
 ghost use Rattle.replay.specs.Compiled as C;
 
+use dimension::{bits32, signed16};
 use numbers::{byte_at, u16_at};
 use slices::after;
 use table::{DIFFERENCE, FLAG, GRADE, RATE, ROLE, TARGET, word};
@@ -15,14 +16,11 @@ fn base_of(s: &[u8], b: u16) -> Option<u8>
 }
 
 // The bits of a 16-bit numerator in 32.
-#[tactic(auto, unfolding(crate::specs::Compiled::widened))]
+#[tactic(auto, using(crate::proofs::Widened::widening))]
 fn widened(w: u16) -> u32
     ensures { result ≡ C.widened w }
 {
-    if w < 32768 {
-        return w as u32;
-    }
-    4294901760 + w as u32
+    bits32(signed16(w))
 }
 
 // Whether the words begin with these two.

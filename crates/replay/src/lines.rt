@@ -7,7 +7,7 @@ use numbers::{byte_at, u16_at};
 use printed::Line;
 use slices::after;
 
-// Whether the first n bytes are the same.
+// Whether the first n bytes are the same, where each has zeros past its end. `==` of two slices would compare their lengths, and say something else.
 fn are_bytes(s: &[u8], t: &[u8], n: usize) -> bool
     ensures { result ≡ all (P.byte_as s.now t.now) n }
 {

@@ -9,17 +9,38 @@ mod pieces;
 mod requests;
 mod sections;
 
-use pieces::Pieces;
+use pieces::Compared;
 use requests::Requests;
 use std::io;
+
+// The groups of these files, in their headers.
+const COMPILATIONS: u32 = 2;
+
+const LINES: u32 = 6;
 
 fn main(rt: HostRuntime) -> io::Result<()> {
     let tally = sections::replayed(&rt, "lookups.bin", Requests::Lookups)?;
     println!(rt; "lookups {tally}")?;
     let tally = sections::replayed(&rt, "formulas.bin", Requests::Formulas)?;
     println!(rt; "formulas {tally}")?;
-    let tally = pieces::replayed(&rt, "compile.bin", Pieces::Compilations)?;
+    let tally = pieces::replayed(
+        &rt,
+        "compile.bin",
+        COMPILATIONS,
+        |s, image| Compared {
+            agrees: compiled::agrees(s, image),
+            size: compiled::size(s),
+        },
+    )?;
     println!(rt; "compilations {tally}")?;
-    let tally = pieces::replayed(&rt, "lines.bin", Pieces::Lines)?;
+    let tally = pieces::replayed(
+        &rt,
+        "lines.bin",
+        LINES,
+        |s, input| Compared {
+            agrees: lines::agrees(s, input),
+            size: lines::size(s),
+        },
+    )?;
     println!(rt; "lines {tally}")
 }

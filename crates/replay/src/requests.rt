@@ -15,7 +15,8 @@ use slices::{after, part};
 use stored::{is_kind, is_number, is_refusal};
 use table::own_rows;
 
-// What a file has requests for. The number is that of its group, in the header.
+// What a file has requests for. The number is that of its group, in the header. It is no closure: what is asked and how many bytes a request has are
+// told apart, also in the contracts, so that it would be two closures through six functions, each with a promise of what it computes.
 #[derive(Clone, Copy)]
 pub(crate) enum Requests {
     Lookups = 3,
@@ -30,6 +31,7 @@ const UNWRITTEN: u16 = 54321;
 fn exponent(s: &[u8]) -> Exponent
     ensures { exponent_of result ≡ R.exponent_in s.now }
 {
+    // The code of an operation as the file has it (docs/VECTORS.md), 9 for an inexact power, and above 7 for any power.
     if byte_at(s, 0) == 9 {
         return Exponent::Inexact;
     }

@@ -25,7 +25,7 @@ fn replay(s: &[u8], requests: Requests, n: u16, table: &[u32]) -> Walked
     ensures upper_bound { result.size ≤ 1179642 * n }
 {
     let mut at: usize = 0;
-    let mut count: u32 = 0;
+    let mut count: u32 = 0; // counts what agrees, not the turns
     for _ in 0..n {
         let rest = after(s, at);
         if requests::agrees(rest, requests, table) {
@@ -54,7 +54,8 @@ fn section(s: &[u8], requests: Requests, image: &mut [u8]) -> Walked {
 }
 
 // How many requests of n sections agree; none if the sections don't end with the file. It isn't the walk of `pieces`: these files are held whole, so
-// no reading fails, and a section has many requests.
+// no reading fails, and a section has many requests. `vectors` has a walk of its own: one public function for both, with a closure, was written and
+// proved, and of what a closure counts it can promise a bound alone.
 fn agreed(s: &[u8], requests: Requests, n: u32, image: &mut [u8]) -> u32 {
     let mut rest = s;
     let mut count: u32 = 0;

@@ -82,7 +82,9 @@ fn with_row(
     combine(table, &words, twins, code, l, r)
 }
 
-// A lookup over rows of which is known whether they are in range, and what the first for the pair names.
+// A lookup over rows of which is known whether they are in range, and what the first for the pair names. `fine` is no flag of `named`: rows in range
+// may hold none for the pair, and rows out of range may hold one. The one word 0 stands for rows out of range, since words that are no whole row never
+// are rows: the lookup takes words, so the list itself can't be handed on.
 #[tactic(auto, unfolding(crate::specs::Standing::standing))]
 pub fn combine_by(
     table: &[u32],
@@ -105,7 +107,7 @@ pub fn combine_by(
     }
 }
 
-// Two kinds combined by the code of a token, over a lent list of rows.
+// Two kinds combined by the code of a token, which is lent as a number as in `lookup`, over a lent list of rows.
 #[tactic(auto, using(crate::proofs::Stands::stood))]
 pub fn combine_rows(
     table: &[u32],
@@ -123,7 +125,8 @@ pub fn combine_rows(
     combine_by(table, fine, named, twins, code, l, r)
 }
 
-// Row i of the words; past their end, a row that is for no pair.
+// Row i of the words; past their end, a row that is for no pair: no kind is 65,536, since a kind is two bytes. An Option would be asked of each row
+// again, and the list is then no longer one of rows as the public call takes it.
 #[tactic(auto, using(crate::proofs::Listed::listing))]
 fn record_at(words: &[u32], i: usize) -> Row
     ensures { result ≡ record_at words.now i }
@@ -144,7 +147,7 @@ fn record_at(words: &[u32], i: usize) -> Row
     }
 }
 
-// The first 400 rows of the words.
+// The first 400 rows of the words. An array of fixed size, filled in place: no heap.
 fn records(words: &[u32]) -> [Row; 400]
     ensures { result ≡ records words.now }
 {

@@ -34,6 +34,7 @@ fn is_twin(s: &[u8], twins: &[u16], i: usize) -> bool
     u16_at(s, twins_at(s) + 2 * i) == twins[i]
 }
 
+// Not `==` of two slices: the stored twins are bytes, two for each.
 #[tactic(auto, using(laws::proofs::All::alls), unfolding(crate::specs::Answers::twins_as))]
 fn are_twins(s: &[u8], twins: &[u16]) -> bool
     ensures { result ≡ rule.twins_as s.now twins.now }
@@ -50,7 +51,7 @@ fn are_twins(s: &[u8], twins: &[u16]) -> bool
     true
 }
 
-// The Rust can't tell every place.
+// The Rust can't tell every place; 65,535 is what the file then holds, not an answer of a function here.
 #[tactic(auto, unfolding(crate::specs::Answers::place_as))]
 fn is_place(stored: u16, place: usize) -> bool
     ensures { result ≡ rule.place_as stored place }
@@ -66,6 +67,7 @@ fn is_value(s: &[u8], at: usize, said: Said, i: usize) -> bool
     u32_at(s, at + 4 * i) as usize == said.values.get(i).copied().unwrap_or(0)
 }
 
+// Not `==` of two slices: the stored values are bytes, four for each, and of those past the four of a refusal 0 is said.
 #[tactic(auto, using(laws::proofs::All::alls), unfolding(crate::specs::Answers::values_as))]
 fn are_values(s: &[u8], at: usize, said: Said) -> bool
     requires { (at ≤ 104) × (said.count ≤ 65535) }
@@ -117,6 +119,7 @@ fn are_numbers(s: &[u8], said: Said) -> bool
 fn is_cause(s: &[u8], said: Said, place: usize) -> bool
     ensures { result ≡ rule.cause_as s.now said place }
 {
+    // 0 to 3 are the bytes that the files begin an answer with (docs/VECTORS.md); each is compared at one place, so none has a type here.
     (byte_at(s, 0) == 2) & (byte_at(s, 1) as u32 == said.number) & is_place(u16_at(s, 2), place)
 }
 

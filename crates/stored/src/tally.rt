@@ -13,7 +13,8 @@ pub struct Tally {
     pub requests: u32,
 }
 
-// What is told of a file that isn't there or isn't of its group: no stored file has no requests, so this is never what is expected.
+// What is told of a file that isn't there or isn't of its group: no stored file has no requests, so this is never what is expected. It isn't `None`,
+// since each file has its line of two numbers, which is compared with the one that is wanted.
 pub const UNREADABLE: Tally = Tally {
     agreed: 0,
     requests: 0,
@@ -40,7 +41,8 @@ pub fn room() -> [u8; ROOM]
     [0u8; ROOM]
 }
 
-// How many bytes of the file were put into the buffer: none if it can't be opened, and none if it fills the buffer, since it may go on.
+// How many bytes of the file were put into the buffer: none if it can't be opened, and none if it fills the buffer, since it may go on. No bytes have
+// no header, so a caller asks nothing more of 0 than of any other file.
 pub fn read<R: fs::Files>(files: &R, name: &str, buffer: &mut [u8]) -> io::Result<usize>
     ensures { IfOk result (λ n. n ≤ length buffer.new - 1) }
 {

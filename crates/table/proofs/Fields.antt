@@ -1,84 +1,62 @@
--- The words of a kind, read under the count: past it a field is the word that says none (`fields`). And what is known of a kind's dimensions once
+-- The words of a kind, read under the count: past it a field is 0, and names no kind (`fields`). And what is known of a kind's dimensions once
 -- they were asked for. Assumes nothing.
-use Prim.Native.Nat.{ℕ, ◌+◌, ◌<◌, ◌≤◌}
+use Prim.Native.Nat.{ℕ, ◌+◌, ◌<◌, ◌≤◌, min}
 use mathlib.Core.Path.{◌≡◌, refl, sym, ◌∙◌}
 use mathlib.Core.Bool.{Bool, true, false, cond}
 use mathlib.Core.List.{List}
 use Rattle.std.specs.declared.option.Option.{Option}
 use Rattle.std.specs.declared.option.Option.TheVariants.{None, Some}
-use native.Mathlib.Omega.{arith}
 use lib.Dec.{ltb, eqb}
 use borrow.Author.Tests.{lt-ltb, le-ltb}
+use Rattle.std.proofs.Math.Nat.{min_comm}
 use Rattle.laws.specs.Options.{found, is_some}
 use Rattle.laws.specs.Ranges.{below}
 use Rattle.dimension.specs.Dimension as D
 use Rattle.dimension.specs.declared.dimensions.Dimensions.{Dimensions}
-use Rattle.rules.specs.Kinds as K
 use Rattle.rules.specs.Table.{kinds_of, kinds_in, kind_place, word, index_or, dims_from}
-use Rattle.table.specs.Shown.{field}
+use Rattle.table.specs.Shown.{field, link}
 
--- ---- the count: n is the word that says it
-module _ (t : List ℕ) {n : ℕ} where
-  pub count_few : n ≡ word t 0 → n < 240 → n ≡ (kinds_of t).count
-  unfolding kinds_of
-  count_few e h = omega (arith, e)
-
-  pub count_many : n ≡ word t 0 → 240 ≤ n → 240 ≡ (kinds_of t).count
-  unfolding kinds_of
-  count_many e h = omega (arith, e)
+-- ---- the count: n is the smaller of two, named the other way round
+pub count_is : (t : List ℕ) {n : ℕ} → n ≡ min (word t 0) 240 → n ≡ (kinds_of t).count
+unfolding kinds_of
+count_is t e = e ∙ min_comm (word t 0) 240
 
 -- ---- word f of kind k, where m is the count
-module _ (t : List ℕ) (k f d : ℕ) {m : ℕ} where
-  pub field_in : {v : ℕ} → m ≡ (kinds_of t).count → k < m → v ≡ word t (kind_place k + f) → v ≡ field t k f d
+module _ (t : List ℕ) (k f : ℕ) {m : ℕ} where
+  pub field_in : {v : ℕ} → m ≡ (kinds_of t).count → k < m → v ≡ word t (kind_place k + f) → v ≡ field t k f
   unfolding kinds_of below field
   field_in e h q = rw (← e, lt-ltb k m h) q
 
-  pub field_past : m ≡ (kinds_of t).count → m ≤ k → d ≡ field t k f d
+  pub field_past : m ≡ (kinds_of t).count → m ≤ k → 0 ≡ field t k f
   unfolding kinds_of below field
   field_past e h = rw (← e, le-ltb k m h)
 
--- ---- what a field v says; u is the link that is read from it
-either_link : (b : Bool) (w : ℕ) → (index_or (cond b w 65535)) ≡ cond b (index_or w) None
-either_link true w = refl
-either_link false w = refl
+  -- the kind that it names
+  pub link_in : {u : Option ℕ} → m ≡ (kinds_of t).count → k < m → u ≡ index_or (word t (kind_place k + f)) → u ≡ link t k f
+  unfolding kinds_of below link
+  link_in e h q = rw (← e, lt-ltb k m h) q
 
+  pub link_past : m ≡ (kinds_of t).count → m ≤ k → None ≡ link t k f
+  unfolding kinds_of below link
+  link_past e h = rw (← e, le-ltb k m h)
+
+-- ---- what a field v says
 some_if : {A : Type 0} (b : Bool) (a : A) → b ≡ is_some (cond b (Some a) None)
 some_if true a = refl
 some_if false a = refl
-
-either_point : (b : Bool) (w : ℕ) → ltb (cond b w 65535) 65535 ≡ is_some (cond b (index_or w) None)
-either_point true w = some_if (ltb w 65535) w
-either_point false w = refl
 
 either_dims : (b : Bool) (w : ℕ) (d : Dimensions) → eqb (cond b w 0) 1 ≡ is_some (cond b (cond (eqb w 1) (Some d) None) None)
 either_dims true w d = some_if (eqb w 1) d
 either_dims false w d = refl
 
 module _ (t : List ℕ) (k : ℕ) {v : ℕ} where
-  pub resolved_field : v ≡ field t k 24 0 → eqb v 1 ≡ is_some ((kinds_of t).dims k)
+  pub resolved_field : v ≡ field t k 24 → eqb v 1 ≡ is_some ((kinds_of t).dims k)
   unfolding kinds_of below field
   resolved_field e = rw e (either_dims (ltb k (kinds_in t)) (word t (kind_place k + 24)) (dims_from t (kind_place k)))
 
-  pub grade_field : v ≡ field t k 25 0 → v ≡ (kinds_of t).grade k
+  pub grade_field : v ≡ field t k 25 → v ≡ (kinds_of t).grade k
   unfolding kinds_of below field
   grade_field e = e
-
-  pub point_field : v ≡ field t k 27 65535 → ltb v 65535 ≡ K.point (kinds_of t) k
-  unfolding kinds_of below field
-  point_field e = rw e (either_point (ltb k (kinds_in t)) (word t (kind_place k + 27)))
-
-  module _ {u : Option ℕ} where
-    pub difference_field : v ≡ field t k 27 65535 → u ≡ index_or v → u ≡ (kinds_of t).difference k
-    unfolding kinds_of below field
-    difference_field e q = q ∙ rw e (either_link (ltb k (kinds_in t)) (word t (kind_place k + 27)))
-
-    pub target_field : v ≡ field t k 28 65535 → u ≡ index_or v → u ≡ (kinds_of t).rate_of k
-    unfolding kinds_of below field
-    target_field e q = q ∙ rw e (either_link (ltb k (kinds_in t)) (word t (kind_place k + 28)))
-
-    pub rate_field : v ≡ field t k 29 65535 → u ≡ index_or v → u ≡ (kinds_of t).rate k
-    unfolding kinds_of below field
-    rate_field e q = q ∙ rw e (either_link (ltb k (kinds_in t)) (word t (kind_place k + 29)))
 
 -- ---- dimensions: b is whether they are given
 module _ (t : List ℕ) (k : ℕ) {b : Bool} where
@@ -107,16 +85,13 @@ module _ (t : List ℕ) (k : ℕ) {b : Bool} {v : Dimensions} where
   unresolved e p q = rw (unresolved_is t k e p) q
 
 pub ruleset fields = (
-  count_few,
-  count_many,
+  count_is,
   field_in,
   field_past,
+  link_in,
+  link_past,
   resolved_field,
   grade_field,
-  point_field,
-  difference_field,
-  target_field,
-  rate_field,
   resolved,
   unresolved,
 )

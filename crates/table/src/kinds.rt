@@ -6,39 +6,46 @@ ghost use Rattle.laws.specs.Options.{found, is_some};
 ghost use Rattle.dimension.specs.Dimension as D;
 ghost use Rattle.rules.specs.Kinds as K;
 ghost use Rattle.rules.specs.Table as T;
-ghost use Rattle.table.specs.Shown.{field};
+ghost use Rattle.table.specs.Shown.{field, link};
 
 use crate::places::{DIFFERENCE, FLAG, GRADE, KIND, KINDS, RATE, TARGET};
-use crate::words::{dims_from, index_or, word};
+use crate::words::{dims_from, index_at, word};
 use dimension::Dimensions;
 
 // At most 240, whatever the word says.
 pub fn kind_count(t: &[u32]) -> u16
     ensures { result ≡ (T.kinds_of t.now).count }
 {
-    let n = word(t, 0);
-    if n < 240 {
-        return n as u16;
-    }
-    240
+    word(t, 0).min(240) as u16
 }
 
-// Word f of kind k, or d past the count.
-fn field(t: &[u32], k: u16, f: usize, d: u32) -> u32
+// Word f of kind k, or 0 past the count.
+fn field(t: &[u32], k: u16, f: usize) -> u32
     requires { f < 32 }
-    ensures { result ≡ field t.now k f d }
+    ensures { result ≡ field t.now k f }
 {
     if k < kind_count(t) {
         return word(t, KINDS + KIND * k as usize + f);
     }
-    d
+    0
 }
 
-// Whether the kind's dimensions are given.
+// The kind that word f of kind k names, or none past the count.
+fn link(t: &[u32], k: u16, f: usize) -> Option<u16>
+    requires { f < 32 }
+    ensures { result ≡ link t.now k f }
+{
+    if k < kind_count(t) {
+        return index_at(t, KINDS + KIND * k as usize + f);
+    }
+    None
+}
+
+// Whether the kind's dimensions are given. Asked apart from the dimensions, since a search asks it and compares their words: it makes no dimensions.
 pub fn is_resolved(t: &[u32], k: u16) -> bool
     ensures { result ≡ is_some ((T.kinds_of t.now).dims k) }
 {
-    field(t, k, FLAG, 0) == 1
+    field(t, k, FLAG) == 1
 }
 
 // Dimension one for an unresolved kind.
@@ -54,48 +61,51 @@ pub fn dims_of(t: &[u32], k: u16) -> Dimensions
 pub fn grade_of(t: &[u32], k: u16) -> u32
     ensures { result ≡ (T.kinds_of t.now).grade k }
 {
-    field(t, k, GRADE, 0)
+    field(t, k, GRADE)
 }
 
+#[tactic(auto, unfolding(rules::specs::Table::kinds_of, crate::specs::Shown::link))]
 pub fn difference_of(t: &[u32], k: u16) -> Option<u16>
     ensures { result ≡ (T.kinds_of t.now).difference k }
 {
-    index_or(field(t, k, DIFFERENCE, 65535))
+    link(t, k, DIFFERENCE)
 }
 
 // The kind that k is the rate of.
+#[tactic(auto, unfolding(rules::specs::Table::kinds_of, crate::specs::Shown::link))]
 pub fn target_of(t: &[u32], k: u16) -> Option<u16>
     ensures { result ≡ (T.kinds_of t.now).rate_of k }
 {
-    index_or(field(t, k, TARGET, 65535))
+    link(t, k, TARGET)
 }
 
 // The kind that is the rate of k.
+#[tactic(auto, unfolding(rules::specs::Table::kinds_of, crate::specs::Shown::link))]
 pub fn rate_of(t: &[u32], k: u16) -> Option<u16>
     ensures { result ≡ (T.kinds_of t.now).rate k }
 {
-    index_or(field(t, k, RATE, 65535))
+    link(t, k, RATE)
 }
 
 // A kind with a difference.
 pub fn is_point(t: &[u32], k: u16) -> bool
     ensures { result ≡ K.point (T.kinds_of t.now) k }
 {
-    field(t, k, DIFFERENCE, 65535) < 65535
+    difference_of(t, k).is_some()
 }
 
 #[tactic(auto, unfolding(rules::specs::Table::kinds_of))]
 pub fn dimensionless(t: &[u32]) -> Option<u16>
     ensures { result ≡ (T.kinds_of t.now).dimensionless }
 {
-    index_or(word(t, 2))
+    index_at(t, 2)
 }
 
 #[tactic(auto, unfolding(rules::specs::Table::kinds_of))]
 pub fn time(t: &[u32]) -> Option<u16>
     ensures { result ≡ (T.kinds_of t.now).time }
 {
-    index_or(word(t, 3))
+    index_at(t, 3)
 }
 
 // The time kind's difference.

@@ -32,14 +32,14 @@ pub type Head = [u32; 4];
 
 pub type Marks = [u32; 8];
 
-// How many kinds and rows there are, the dimensionless and the time kind.
+// How many kinds and rows there are, the dimensionless and the time kind: 65,535, the table's own word, where there is none.
 pub fn head_words(kinds: u32, rows: u32, dimensionless: u16, time: u16) -> Head
     ensures { result ≡ kinds ∷ rows ∷ dimensionless ∷ time ∷ [] }
 {
     [kinds, rows, dimensionless as u32, time as u32]
 }
 
-// A kind's words past its exponents.
+// A kind's words past its exponents. These are the words themselves, so a link that isn't there is 65,535 and no option.
 pub fn mark_words(
     flag: u32,
     grade: u32,
@@ -62,7 +62,7 @@ pub fn mark_words(
     ]
 }
 
-// The word that an operation has in a row.
+// The word that an operation has in a row: a number, since a table is words.
 pub fn op_word(op: ProductOp) -> u32
     ensures { result ≡ K.op_word op }
 {

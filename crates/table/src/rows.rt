@@ -6,12 +6,11 @@ ghost use Rattle.rules.specs.Table as T;
 ghost use Rattle.table.specs.Shown.{left_is, row_for};
 
 use crate::places::{ROWS, op_word};
-use crate::words::{index_or, word};
+use crate::words::{index_at, word};
 use dimension::ProductOp;
 use slices::part;
 
-// Whether one of the sixteen rows from row `from` on, all of them there, has this left kind. None of them ends the loop, so that several are compared
-// at once.
+// Whether one of the sixteen rows from row `from` on, all of them there, has this left kind. None of them ends the loop.
 #[tactic(auto, using(laws::proofs::FirstFrom::anys), unfolding(crate::specs::Shown::left_is))]
 fn any_left(s: &[u32], from: usize, l: u16) -> bool
     requires { 4 * (from + 16) ≤ length s.now }
@@ -82,7 +81,7 @@ pub fn row_of(rows: &[u32], l: u16, op: ProductOp, r: u16) -> Option<u16>
     ensures { result ≡ T.rows_of rows.now l op r }
 {
     let i = found_row(rows, l, op_word(op), r)?;
-    index_or(word(rows, 4 * i + 3))
+    index_at(rows, 4 * i + 3)
 }
 
 // The rows that a table holds itself, behind its kinds: as many as its second word says.

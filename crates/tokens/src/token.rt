@@ -5,7 +5,7 @@ ghost use Rattle.dimension.specs.Fraction as F;
 ghost use Rattle.rules.specs.Bytes.{le2, le4};
 ghost use Rattle.rules.specs.Formula.{unary, exact};
 ghost use Rattle.rules.specs.Token.{token_by, token_at};
-ghost use Rattle.tokens.specs.Shown.{coded, unused, token_of, made};
+ghost use Rattle.tokens.specs.Shown.{coded, unused, made};
 
 use dimension::{Rational, signed32};
 use error::Op;
@@ -65,18 +65,18 @@ fn exact_power(num: u32, den: u32) -> Token
 
 // A token by its code, whatever the fields it doesn't use hold. Kinds and operations are most of a formula, so they are asked first.
 #[tactic(auto, unfolding(rules::specs::Token::token_by))]
-fn token_by(code: u8, index: u16, num: u32, den: u32) -> Token
-    ensures { result ≡ coded (token_by code index (F.lowest (I.twos 2147483648 num) den)) }
+fn token_by(f: Fields) -> Token
+    ensures { result ≡ coded (token_by f.code f.index (F.lowest (I.twos 2147483648 f.num) f.den)) }
 {
-    if code == 1 {
-        return Token::Kind(index);
+    if f.code == 1 {
+        return Token::Kind(f.index);
     }
-    if let Some(op) = Op::from_code(code) {
+    if let Some(op) = Op::from_code(f.code) {
         return Token::Binary(Binary::Combine(op));
     }
-    match code {
+    match f.code {
         0 => Token::Number,
-        8 => exact_power(num, den),
+        8 => exact_power(f.num, f.den),
         9 => Token::Unary(Unary::Inexact),
         10 => Token::Unary(Unary::Absolute),
         11 => Token::Binary(Binary::Compare),
@@ -86,25 +86,25 @@ fn token_by(code: u8, index: u16, num: u32, den: u32) -> Token
 
 // Whether the fields that a code doesn't use are zero. The code is asked first, so that only these are looked at.
 #[tactic(auto, unfolding(crate::specs::Shown::unused))]
-fn unused_zero(code: u8, second: u8, index: u16, num: u32, den: u32) -> bool
-    ensures { result ≡ unused code second index num den }
+fn unused_zero(f: Fields) -> bool
+    ensures { result ≡ unused f.code f.second f.index f.num f.den }
 {
-    if code == 1 {
-        return (second == 0) & (num == 0) & (den == 0);
+    if f.code == 1 {
+        return (f.second == 0) & (f.num == 0) & (f.den == 0);
     }
-    if code == 8 {
-        return (second == 0) & (index == 0);
+    if f.code == 8 {
+        return (f.second == 0) & (f.index == 0);
     }
-    (second == 0) & (index == 0) & (num == 0) & (den == 0)
+    (f.second == 0) & (f.index == 0) & (f.num == 0) & (f.den == 0)
 }
 
 // A token from its five fields.
-#[tactic(auto, unfolding(crate::specs::Shown::token_of))]
-fn token_of(code: u8, second: u8, index: u16, num: u32, den: u32) -> Token
-    ensures { result ≡ coded (token_of code second index num den) }
+#[tactic(auto, unfolding(crate::specs::Shown::made, crate::specs::Shown::token_of))]
+fn token_of(f: Fields) -> Token
+    ensures { result ≡ coded (made f) }
 {
-    if unused_zero(code, second, index, num, den) {
-        return token_by(code, index, num, den);
+    if unused_zero(f) {
+        return token_by(f);
     }
     Token::Unreadable
 }
@@ -116,7 +116,7 @@ pub fn token_count(bytes: &[u8]) -> usize
     bytes.len() / 12
 }
 
-// A 16-bit number from its two bytes.
+// A 16-bit number from its two bytes, each read by itself, as in `numbers`, where a line says why.
 fn u16_of(low: u8, high: u8) -> u16
     ensures { result ≡ low + 256 * high }
 {
@@ -141,7 +141,8 @@ fn u32_within(bytes: &[u8], p: usize) -> u32
     u16_within(bytes, p) as u32 + 65536 * (u16_within(bytes, p + 2) as u32)
 }
 
-// The fields of token k where its twelve bytes are all there, so that no place needs a test and each field is read at once.
+// The fields of token k where its twelve bytes are all there, so that no place needs a test and each field is read at once. With `fields_past` alone a
+// formula of 128 tokens takes 16,500 instructions more, and mixed128 over the catalog teaching then misses its goal (docs/SPEED.md: 59.4k of 73.5k).
 #[tactic(auto, using(crate::proofs::Listed::token_fields), unfolding(crate::specs::Shown::made))]
 fn fields_within(bytes: &[u8], k: usize) -> Fields
     requires { 12 * k + 12 ≤ length bytes.now }
@@ -192,10 +193,8 @@ fn fields_at(bytes: &[u8], k: usize) -> Fields
 }
 
 // Token k.
-#[tactic(auto, unfolding(crate::specs::Shown::made))]
 pub fn token_at(bytes: &[u8], k: usize) -> Token
     ensures { result ≡ coded (token_at bytes.now k) }
 {
-    let f = fields_at(bytes, k);
-    token_of(f.code, f.second, f.index, f.num, f.den)
+    token_of(fields_at(bytes, k))
 }

@@ -9,7 +9,8 @@ use joined::whole_from;
 use std::num::wrapping_add_u32;
 use table::{FLAG, KIND, KINDS, exponent, word};
 
-// The exponents of a kind whose dimensions are given. Most are whole, which is seen first.
+// The exponents of a kind whose dimensions are given. Whole ones are seen first: fractions, each seen reduced by itself, take some 1,400 instructions a
+// kind.
 pub(crate) fn exponents_fine(t: &[u32], p: usize) -> bool
     requires { p < 4294967296 }
     ensures { result ≡ T.exponents_fine t.now p }
@@ -43,7 +44,8 @@ fn fourths(t: &[u32], p: usize, m: u32) -> u32
 
 // Whether the exponents of n kinds, all of them there, are whole numbers in their range, given or not. A numerator is in its range where 32,768 more
 // fits 16 bits, and a denominator is 1 where one less has no bit; so nothing is asked before the end. The four words that are gathered into are
-// for four words that follow one another, so that these are looked at at once.
+// for four words that follow one another: they become one vector, 21 instructions a kind. With `== 1` for some of them, or a mask, they take two to four
+// times as many.
 pub(crate) fn all_whole(t: &[u32], n: usize) -> bool
     requires { 16 + 32 * n ≤ length t.now }
     ensures { result ≡ all (λ k. all (whole_at t.now (T.kind_place k)) 12) n }

@@ -16,6 +16,7 @@ pub(crate) fn head_fine(t: &[u32]) -> bool
     (n <= 240) & (word(t, 1) <= 400) & link_fine(word(t, 2), n) & link_fine(word(t, 3), n)
 }
 
+// Kind k. Its marks are tested in two forms, for words that are all there and for others: words are lent, of any length.
 #[tactic(auto, using(crate::proofs::Ands::ands), unfolding(rules::specs::Table::kind_fine))]
 fn kind_fine(t: &[u32], k: usize) -> bool
     requires { k < 240 }
@@ -47,7 +48,8 @@ fn each_fine(t: &[u32], n: usize) -> bool
     true
 }
 
-// Where all exponents are whole numbers, as in nearly every table, nothing but the marks is left to test.
+// Where all exponents are whole numbers, nothing but the marks is left to test: some 42 instructions a kind, exponents and marks together. It needs the
+// words to be there; each kind by itself is for the rest, since words are lent, of any length.
 pub(crate) fn kinds_fine(t: &[u32], n: usize) -> bool
     requires { n ≤ 240 }
     ensures { result ≡ all (T.kind_fine t.now) n }

@@ -6,7 +6,7 @@ ghost use Rattle.valid.specs.Shown.{role_fine};
 
 use table::{DIFFERENCE, FLAG, GRADE, KIND, KINDS, RATE, ROLE, TARGET, word};
 
-// The index of one of n kinds, or none.
+// The index of one of n kinds, or none, which is 65,535 here and below: the table's own word, since words are lent and hold no option.
 pub(crate) fn link_fine(w: u32, n: u32) -> bool
     ensures { result ≡ (nat_lt w n || w == 65535) }
 {
@@ -23,7 +23,7 @@ fn role_fine(role: u32, difference: u32, n: u32) -> bool
     difference == 65535
 }
 
-// Flag, grade, role and links of the kind whose words begin at p.
+// Flag, grade, role and links of the kind whose words begin at p, for words that may be missing: they are lent, of any length.
 #[tactic(auto, unfolding(rules::specs::Table::marks_fine))]
 pub(crate) fn marks_fine(t: &[u32], p: usize) -> bool
     requires { p < 4294967296 }

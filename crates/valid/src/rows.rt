@@ -5,7 +5,7 @@ ghost use Rattle.rules.specs.Table as T;
 
 use table::word;
 
-// The row whose words begin at p of s, over the kinds of t.
+// The row whose words begin at p of s, over the kinds of t, for words that may be missing: they are lent, of any length.
 #[tactic(auto, unfolding(rules::specs::Table::row_fine))]
 fn row_fine(t: &[u32], s: &[u32], p: usize) -> bool
     requires { p < 9223372036854775808 }
@@ -15,8 +15,8 @@ fn row_fine(t: &[u32], s: &[u32], p: usize) -> bool
     (word(s, p) < n) & (word(s, p + 1) < 4) & (word(s, p + 2) < n) & (word(s, p + 3) < n)
 }
 
-// The m rows of s from place p on, all of them there. None of them ends the loop, and each of a row's words has a test of its own to gather into, so
-// that the four are looked at at once.
+// The m rows of s from place p on, all of them there. None of them ends the loop, and each of a row's words has a test of its own to gather into: some 7
+// instructions a row.
 fn rows_within(t: &[u32], s: &[u32], p: usize, m: usize) -> bool
     requires { p + 4 * m ≤ length s.now }
     ensures { result ≡ all (λ i. T.row_fine t.now s.now (p + 4 * i)) m }

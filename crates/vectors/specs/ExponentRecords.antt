@@ -8,6 +8,18 @@ use Rattle.std.specs.declared.option.Option.TheVariants.{Some}
 use Rattle.dimension.specs.declared.dimensions.Dimensions.{Dimensions}
 use Rattle.rules.specs.Bytes.{le4}
 use Rattle.stored.specs.Exponents.{exponent, dimensions}
+use Rattle.vectors.specs.declared.exponents.Operation.{Operation}
+use Rattle.vectors.specs.declared.exponents.Operation.TheVariants.{Reduce, Add, Subtract, Multiply, Product, Quotient, Power}
+
+-- an operation's number in the file
+unfoldable pub number : Operation → ℕ
+number Reduce = 0
+number Add = 1
+number Subtract = 2
+number Multiply = 3
+number Product = 4
+number Quotient = 5
+number Power = 6
 
 -- the operations 0 to 3, and 4 and 5
 unfoldable pub of_exponents : ℕ → Rational → Rational → Option Rational

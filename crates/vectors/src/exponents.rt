@@ -1,6 +1,8 @@
 // The group `exponents`: fractions reduced, added, subtracted and multiplied, and the products, quotients and powers of dimensions. A record is its
 // operation in four bytes, and then left, right and result: exponents of 8 bytes, dimensions of 96.
-ghost use Rattle.std.specs.Prelude.{true, ◌≡◌, ◌≤◌};
+ghost use Rattle.std.specs.Prelude.{true, ◌≡◌, ◌≤◌, IfSome};
+ghost use Rattle.rules.specs.Bytes.{le4};
+ghost use Rattle.dimension.specs.Fraction.{answer};
 ghost use Rattle.vectors.specs.ExponentRecords as R;
 
 use dimension::{Dimensions, Rational};
@@ -11,7 +13,7 @@ use stored::{Tally, UNREADABLE, dimensions, exponent};
 
 const GROUP: u32 = 1;
 
-// Whether an answer is the stored one, numerator and denominator.
+// Whether an answer is the stored one, numerator and denominator. By `equals`: `==` of an Option of a derived type left its goals open.
 fn is(found: Option<Rational>, stored: Rational) -> bool
     ensures { result ≡ true → found ≡ Some stored }
 {
@@ -31,69 +33,71 @@ fn are(found: Option<Dimensions>, stored: Dimensions) -> bool
     }
 }
 
-// The operations 0 to 3. The first has no right.
-#[tactic(auto, unfolding(crate::specs::ExponentRecords::of_exponents))]
-fn of_exponents(operation: u32, left: Rational, right: Rational) -> Option<Rational>
-    ensures { result ≡ R.of_exponents operation left right }
-{
-    if operation == 0 {
-        return Rational::new(left.num, left.den);
-    }
-    if operation == 1 {
-        return left.add(right);
-    }
-    if operation == 2 {
-        return left.minus(right);
-    }
-    left.times(right)
+// What a record asks: the first four of exponents, the others of dimensions.
+#[derive(Clone, Copy)]
+enum Operation {
+    Reduce,
+    Add,
+    Subtract,
+    Multiply,
+    Product,
+    Quotient,
+    Power,
 }
 
-// The operations 4 and 5.
-#[tactic(auto, unfolding(crate::specs::ExponentRecords::of_dimensions))]
-fn of_dimensions(operation: u32, left: Dimensions, right: Dimensions) -> Option<Dimensions>
-    ensures { result ≡ R.of_dimensions operation left right }
+// The operation that a record begins with, by its number; none if there is no such operation.
+#[tactic(auto, unfolding(crate::specs::ExponentRecords::number))]
+fn operation_of(s: &[u8]) -> Option<Operation>
+    ensures { IfSome result (λ o. R.number o ≡ le4 s.now 0) }
 {
-    if operation == 4 {
-        return left.product(right);
-    }
-    left.quotient(right)
-}
-
-// Whether the library answers the first record as the Rust did.
-#[tactic(auto, using(crate::proofs::Agreeing::agreeing))]
-fn agrees(s: &[u8]) -> bool
-    ensures { result ≡ true → R.answer s.now ≡ R.stored s.now }
-{
-    let operation = u32_at(s, 0);
-    if operation < 4 {
-        return is(
-            of_exponents(operation, exponent(s, 4), exponent(s, 12)),
-            exponent(s, 20),
-        );
-    }
-    if operation < 6 {
-        return are(
-            of_dimensions(operation, dimensions(s, 4), dimensions(s, 100)),
-            dimensions(s, 196),
-        );
-    }
-    are(dimensions(s, 4).pow(exponent(s, 100)), dimensions(s, 108))
-}
-
-// The bytes of a record; none for an operation that isn't there.
-fn size(operation: u32) -> Option<usize> {
-    match operation {
-        0..=3 => Some(28),
-        4 | 5 => Some(292),
-        6 => Some(204),
+    match u32_at(s, 0) {
+        0 => Some(Operation::Reduce),
+        1 => Some(Operation::Add),
+        2 => Some(Operation::Subtract),
+        3 => Some(Operation::Multiply),
+        4 => Some(Operation::Product),
+        5 => Some(Operation::Quotient),
+        6 => Some(Operation::Power),
         _ => None,
     }
 }
 
-// What follows the record that s begins with; none if there is no whole record.
-fn past(s: &[u8]) -> Option<&[u8]> {
-    let n = size(u32_at(s, 0))?;
-    s.get(n..)
+// The bytes of a record.
+fn size(operation: Operation) -> usize {
+    match operation {
+        Operation::Reduce | Operation::Add | Operation::Subtract | Operation::Multiply => 28,
+        Operation::Product | Operation::Quotient => 292,
+        Operation::Power => 204,
+    }
+}
+
+fn reduced(e: Rational) -> Option<Rational>
+    ensures { result ≡ answer e.num e.den }
+{
+    Rational::new(e.num, e.den)
+}
+
+// Whether the library answers the first record as the Rust did.
+#[tactic(auto, using(crate::proofs::Agreeing::agreeing))]
+fn agrees(s: &[u8], operation: Operation) -> bool
+    requires { R.number operation ≡ le4 s.now 0 }
+    ensures { result ≡ true → R.answer s.now ≡ R.stored s.now }
+{
+    match operation {
+        Operation::Reduce => is(reduced(exponent(s, 4)), exponent(s, 20)),
+        Operation::Add => is(exponent(s, 4).add(exponent(s, 12)), exponent(s, 20)),
+        Operation::Subtract => is(exponent(s, 4).minus(exponent(s, 12)), exponent(s, 20)),
+        Operation::Multiply => is(exponent(s, 4).times(exponent(s, 12)), exponent(s, 20)),
+        Operation::Product => are(
+            dimensions(s, 4).product(dimensions(s, 100)),
+            dimensions(s, 196),
+        ),
+        Operation::Quotient => are(
+            dimensions(s, 4).quotient(dimensions(s, 100)),
+            dimensions(s, 196),
+        ),
+        Operation::Power => are(dimensions(s, 4).pow(exponent(s, 100)), dimensions(s, 108)),
+    }
 }
 
 // How many of the records agree; none if they don't end with the file.
@@ -101,12 +105,15 @@ fn agreed(s: &[u8], records: u32) -> u32
     ensures { result ≤ records }
 {
     let mut rest = s;
-    let mut count: u32 = 0;
+    let mut count: u32 = 0; // counts what agrees, not the turns
     for _i in 0..records {
-        let Some(next) = past(rest) else {
+        let Some(operation) = operation_of(rest) else {
             return 0;
         };
-        if agrees(rest) {
+        let Some(next) = rest.get(size(operation)..) else {
+            return 0;
+        };
+        if agrees(rest, operation) {
             count += 1;
         }
         rest = next;

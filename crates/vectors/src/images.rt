@@ -38,7 +38,7 @@ fn is(answer: Result<(), Fault>, number: u32, place: u32, value: u32) -> bool
     }
 }
 
-// The sum of a block: byte i of it is added i + 1 times.
+// The sum of a block: byte i of it is added i + 1 times. It isn't the sum of `image`, which is what is judged here.
 fn sum(block: &[u8]) -> u32 {
     let mut total: u32 = 0;
     for i in 0..508 {
@@ -93,7 +93,7 @@ fn agrees(request: &[u8], image: &mut [u8]) -> bool {
 fn agreed(requests: &[u8], n: u16, image: &mut [u8]) -> u32
     ensures { result ≤ n }
 {
-    let mut count: u32 = 0;
+    let mut count: u32 = 0; // counts what agrees, not the turns
     for i in 0..n {
         if agrees(after(requests, REQUEST * i as usize), image) {
             count += 1;
@@ -113,7 +113,8 @@ fn section(s: &[u8], image: &mut [u8]) -> u32 {
     agreed(after(s, 12 + size), u16_at(s, 8), image)
 }
 
-// How many requests of n sections agree; none if the sections don't end with the file.
+// How many requests of n sections agree; none if the sections don't end with the file. `replay` has a walk of its own: one public function for both,
+// with a closure, was written and proved, and of what a closure counts it can promise a bound alone.
 fn agreed_in(s: &[u8], n: u32, image: &mut [u8]) -> u32 {
     let mut rest = s;
     let mut count: u32 = 0;

@@ -1,26 +1,26 @@
--- The kinds' words against the definitions: what the lists of links say of roles, differences and rates, and the words of all kinds one after the
+-- The kinds' words against the definitions: what the list of links says of roles, differences and rates, and the words of all kinds one after the
 -- other. Assumes nothing.
 use Prim.Native.Nat.{ℕ, zero, suc, ◌+◌, ◌*◌, ◌/◌, ◌%◌, ◌<◌, ◌≤◌}
 use mathlib.Core.Path.{◌≡◌, refl, sym, ◌∙◌, ap}
 use mathlib.Core.List.{List, [], ◌∷◌, ◌++◌, append_assoc, append-nil}
-use Rattle.std.specs.declared.option.Option.{Option}
 use Rattle.std.specs.declared.option.Option.TheVariants.{None}
 use native.Mathlib.Nat.{add-suc, add-zero}
 use native.Mathlib.Omega.{arith}
 use borrow.Author.Tests.{lt-ltb}
-use lib.ListN.{get_or, take}
-use lib.Seq.{get_or-take}
+use lib.ListN.{get_or}
 use Rattle.laws.specs.Options.{found}
 use Rattle.laws.specs.Ranges.{first, tab, overlay}
+use Rattle.laws.proofs.Below.{below_in}
 use Rattle.laws.proofs.First.{first_same}
 use Rattle.laws.proofs.Tab.{tab_at, tab_same}
 use Rattle.dimension.specs.Dimension as D
 use Rattle.rules.specs.Layout.{kind_count}
-use Rattle.rules.specs.Catalog.{Catalog, id_at, kind_at, kind_from, catalog_in, meant, difference_of, target_of, rate_among, is_difference, role}
+use Rattle.rules.specs.Catalog.{Catalog, kind_at, kind_from, catalog_in, meant, difference_of, target_of, rate_among, is_difference, role}
 use Rattle.rules.specs.Table.{exponent_word, exponent_of, mark_words, kind_word}
 use Rattle.catalog.proofs.Found.{kind_in_law}
 use Rattle.table.specs.Shown.{exponents_of}
-use Rattle.written.specs.Shown.{flat, link_of, first_to, role_by, marks_by, kind_by, kind_in, kinds_word}
+use Rattle.written.specs.declared.links.Links.{Links}
+use Rattle.written.specs.Shown.{flat, link_of, first_to, links_by, no_links, role_by, marks_by, kind_by, kind_in, kinds_word}
 
 -- ---- a rule's list, a part at a time
 pub tab_append : (f : ℕ → ℕ) (m n : ℕ) → tab f (m + n) ≡ tab f m ++ tab (λ i. f (m + i)) n
@@ -61,58 +61,52 @@ pub count_in : (s : List ℕ) → (catalog_in s).kind_count ≡ kind_count s
 unfolding catalog_in
 count_in s = refl
 
--- ---- kind k of an image, by the lists
-module _ (s : List ℕ) (ds ts : List (Option ℕ)) (h : kind_count s ≤ 240) (d : take (kind_count s) ds ≡ tab (link_of s 32) (kind_count s)) (t : take (kind_count s) ts ≡ tab (link_of s 64) (kind_count s)) where
-  difference_in : (k : ℕ) → k < kind_count s → ((catalog_in s).kind k).difference ≡ id_at s (kind_at k + 32)
-  unfolding kind_from
-  difference_in k l = rw (kind_in_law s k l)
+-- ---- kind k of an image, by what is listed of it
+module _ (s : List ℕ) where
+  -- what its ids name
+  pub link_difference : (k : ℕ) → k < kind_count s → link_of s 32 k ≡ difference_of (catalog_in s) k
+  unfolding link_of kind_from
+  link_difference k l = rw (kind_in_law s k l)
 
-  target_in : (k : ℕ) → k < kind_count s → ((catalog_in s).kind k).rate_of ≡ id_at s (kind_at k + 64)
-  unfolding kind_from
-  target_in k l = rw (kind_in_law s k l)
-
-  pub difference_listed : (k : ℕ) → k < kind_count s → get_or ds k None ≡ difference_of (catalog_in s) k
-  unfolding link_of
-  difference_listed k l = sym (get_or-take (kind_count s) ds k None l) ∙ rw (d, tab_at (link_of s 32) (kind_count s) k None l, difference_in k l)
-
-  pub target_listed : (k : ℕ) → k < kind_count s → get_or ts k None ≡ target_of (catalog_in s) k
-  unfolding link_of
-  target_listed k l = sym (get_or-take (kind_count s) ts k None l) ∙ rw (t, tab_at (link_of s 64) (kind_count s) k None l, target_in k l)
+  pub link_target : (k : ℕ) → k < kind_count s → link_of s 64 k ≡ target_of (catalog_in s) k
+  unfolding link_of kind_from
+  link_target k l = rw (kind_in_law s k l)
 
   -- who first names k as a difference, and its rate
-  named_first : (k : ℕ) → first_to ds (kind_count s) k ≡ first (λ j. meant k (difference_of (catalog_in s) j)) (kind_count s)
+  named_first : (k : ℕ) → first_to s 32 (kind_count s) k ≡ first (λ j. meant k (difference_of (catalog_in s) j)) (kind_count s)
   unfolding first_to
-  named_first k = first_same _ _ (kind_count s) (λ i m. ap (meant k) (difference_listed i m))
+  named_first k = first_same _ _ (kind_count s) (λ i m. ap (meant k) (link_difference i m))
 
-  pub rate_first : (k : ℕ) → first_to ts (kind_count s) k ≡ rate_among (catalog_in s) (kind_count s) k
+  rate_first : (k : ℕ) → first_to s 64 (kind_count s) k ≡ rate_among (catalog_in s) (kind_count s) k
   unfolding first_to rate_among
-  rate_first k = first_same _ _ (kind_count s) (λ i m. ap (meant k) (target_listed i m))
+  rate_first k = first_same _ _ (kind_count s) (λ i m. ap (meant k) (link_target i m))
 
-  pub role_told : (k : ℕ) → k < kind_count s → role_by (get_or ds k None) (first_to ds (kind_count s) k) ≡ role (catalog_in s) k
+  role_told : (k : ℕ) → role_by (difference_of (catalog_in s) k) (first_to s 32 (kind_count s) k) ≡ role (catalog_in s) k
   unfolding role_by role is_difference catalog_in
-  role_told k l = rw (difference_listed k l, named_first k)
+  role_told k = rw (named_first k)
 
   -- ---- its words
-  marks_told : (k : ℕ) → k < kind_count s → marks_by (kind_from s (kind_at k)) (get_or ds k None) (get_or ts k None) (first_to ds (kind_count s) k) (first_to ts (kind_count s) k) ≡ mark_words (catalog_in s) k ++ (0 ∷ 0 ∷ [])
+  links_told : (k : ℕ) → k < kind_count s
+      → links_by s (kind_count s) k ≡ record { difference = difference_of (catalog_in s) k; target = target_of (catalog_in s) k; named = first_to s 32 (kind_count s) k; rate = rate_among (catalog_in s) (kind_count s) k }
+  unfolding links_by
+  links_told k l = rw (below_in (kind_count s) None (link_of s 32) k l, below_in (kind_count s) None (link_of s 64) k l, link_difference k l, link_target k l, rate_first k)
+
+  marks_told : (k : ℕ) → k < kind_count s → marks_by (kind_from s (kind_at k)) (links_by s (kind_count s) k) ≡ mark_words (catalog_in s) k ++ (0 ∷ 0 ∷ [])
   unfolding marks_by mark_words
-  marks_told k l = rw (role_told k l, difference_listed k l, target_listed k l, rate_first k, ← kind_in_law s k l, count_in s)
+  marks_told k l = rw (links_told k l, role_told k, ← kind_in_law s k l, count_in s)
 
-  pub kind_told : (fs rs : List (Option ℕ)) → fs ≡ tab (first_to ds (kind_count s)) 240 → rs ≡ tab (first_to ts (kind_count s)) 240 → (k : ℕ) → k < kind_count s → kind_in s ds ts fs rs k ≡ tab (kind_word (catalog_in s) k) 32
+  kind_told : (ls : List Links) {m : ℕ} → ls ≡ tab (links_by s (kind_count s)) m → kind_count s ≤ m → (k : ℕ) → k < kind_count s → kind_in s ls k ≡ tab (kind_word (catalog_in s) k) 32
   unfolding kind_in kind_by
-  kind_told fs rs f r k l =
-      let y : get_or fs k None ≡ first_to ds (kind_count s) k = rw f (tab_at (first_to ds (kind_count s)) 240 k None (omega arith)) in
-      let z : get_or rs k None ≡ first_to ts (kind_count s) k = rw r (tab_at (first_to ts (kind_count s)) 240 k None (omega arith)) in
-      rw (y, z, marks_told k l, ← kind_in_law s k l) (sym (kind_split (catalog_in s) k))
+  kind_told ls {m} e h k l =
+      let y : get_or ls k no_links ≡ links_by s (kind_count s) k = rw e (tab_at (links_by s (kind_count s)) m k no_links (omega arith)) in
+      rw (y, marks_told k l, ← kind_in_law s k l) (sym (kind_split (catalog_in s) k))
 
-  flat_told : (fs rs : List (Option ℕ)) → fs ≡ tab (first_to ds (kind_count s)) 240 → rs ≡ tab (first_to ts (kind_count s)) 240 → (m : ℕ) → m ≤ kind_count s → flat (kind_in s ds ts fs rs) m ≡ tab (kinds_word (catalog_in s)) (32 * m)
+  flat_told : (ls : List Links) {n : ℕ} → ls ≡ tab (links_by s (kind_count s)) n → kind_count s ≤ n → (m : ℕ) → m ≤ kind_count s → flat (kind_in s ls) m ≡ tab (kinds_word (catalog_in s)) (32 * m)
   unfolding flat
-  flat_told fs rs f r zero l = none_yet (kinds_word (catalog_in s))
-  flat_told fs rs f r (suc m) l = rw (flat, flat_told fs rs f r m (omega arith), kind_told fs rs f r m (omega arith)) (sym (kinds_more (catalog_in s) m))
+  flat_told ls e h zero l = none_yet (kinds_word (catalog_in s))
+  flat_told ls e h (suc m) l = rw (flat, flat_told ls e h m (omega arith), kind_told ls e h m (omega arith)) (sym (kinds_more (catalog_in s) m))
 
 -- the words of all kinds, one after the other
-pub kinds_told : (s : List ℕ) (ds ts fs rs : List (Option ℕ)) (t₀ : List ℕ) {n : ℕ} {v : List ℕ} → kind_count s ≤ 240 → n ≡ kind_count s → take (kind_count s) ds ≡ tab (link_of s 32) (kind_count s) → take (kind_count s) ts ≡ tab (link_of s 64) (kind_count s)
-    → fs ≡ tab (first_to ds n) 240 → rs ≡ tab (first_to ts n) 240 → v ≡ overlay (flat (kind_in s ds ts fs rs) n) t₀ → v ≡ overlay (tab (kinds_word (catalog_in s)) (32 * kind_count s)) t₀
-kinds_told s ds ts fs rs t₀ {n} {v} h c d t f r e =
-    let y : fs ≡ tab (first_to ds (kind_count s)) 240 = rw c at f in
-    let z : rs ≡ tab (first_to ts (kind_count s)) 240 = rw c at r in
-    e ∙ rw (c, flat_told s ds ts h d t fs rs y z (kind_count s) (omega arith))
+pub kinds_told : (s : List ℕ) (ls : List Links) (t₀ : List ℕ) {m n : ℕ} {v : List ℕ} → kind_count s ≤ m → n ≡ kind_count s → ls ≡ tab (links_by s (kind_count s)) m
+    → v ≡ overlay (flat (kind_in s ls) n) t₀ → v ≡ overlay (tab (kinds_word (catalog_in s)) (32 * kind_count s)) t₀
+kinds_told s ls t₀ h c d e = e ∙ rw (c, flat_told s ls d h (kind_count s) (omega arith))

@@ -1,9 +1,7 @@
--- A kind's marks and words, by lists of its links. Assumes nothing.
+-- A kind's marks and words, by its links. Assumes nothing.
 use Prim.Native.Nat.{ℕ, ◌/◌, ◌≤◌}
 use mathlib.Core.Path.{◌≡◌, refl, sym, ◌∙◌, ap}
 use mathlib.Core.List.{List}
-use Rattle.std.specs.declared.option.Option.{Option}
-use Rattle.std.specs.declared.option.Option.TheVariants.{None}
 use native.Mathlib.Omega.{arith}
 use lib.ListN.{length, get_or, take, replicate, length-append}
 use borrow.Rule.Slice.PartMut.{put_mid}
@@ -16,7 +14,8 @@ use Rattle.rules.specs.Catalog.{Kind, kind_at, kind_from}
 use Rattle.rules.specs.Table.{exponent_word}
 use Rattle.laws.proofs.Tab.{length_tab}
 use Rattle.table.specs.Shown.{exponents_of}
-use Rattle.written.specs.Shown.{marks_by, kind_by, kind_in}
+use Rattle.written.specs.declared.links.Links.{Links}
+use Rattle.written.specs.Shown.{marks_by, kind_by, kind_in, no_links}
 use Rattle.written.proofs.Pasted.{two_parts}
 
 -- ---- the 32 words of a kind
@@ -24,28 +23,28 @@ pub exponents_length : (d : Dimensions) → length (exponents_of d) ≡ 24
 unfolding exponents_of
 exponents_length d = length_tab (λ i. exponent_word (D.exponent d (i / 2)) i) 24
 
-pub marks_length : (x : Kind) (d t f r : Option ℕ) → length (marks_by x d t f r) ≡ 8
+pub marks_length : (x : Kind) (ls : Links) → length (marks_by x ls) ≡ 8
 unfolding marks_by
-marks_length x d t f r = refl
+marks_length x ls = refl
 
-pub kind_length : (x : Kind) (d t f r : Option ℕ) → length (kind_by x d t f r) ≡ 32
+pub kind_length : (x : Kind) (ls : Links) → length (kind_by x ls) ≡ 32
 unfolding kind_by
-kind_length x d t f r =
-    length-append (exponents_of (found x.dims (λ e. e) D.one)) (marks_by x d t f r)
-    ∙ omega (arith, exponents_length (found x.dims (λ e. e) D.one), marks_length x d t f r)
+kind_length x ls =
+    length-append (exponents_of (found x.dims (λ e. e) D.one)) (marks_by x ls)
+    ∙ omega (arith, exponents_length (found x.dims (λ e. e) D.one), marks_length x ls)
 
 -- put together from both
-pub kind_made : (x : Kind) (d t f r : Option ℕ) {a b y z : List ℕ} {e : Dimensions} → e ≡ found x.dims (λ g. g) D.one → a ≡ exponents_of e → b ≡ marks_by x d t f r → y ≡ a → z ≡ b → put_mid 24 8 (put_mid 0 24 (replicate 32 0) y) z ≡ kind_by x d t f r
+pub kind_made : (x : Kind) (ls : Links) {a b y z : List ℕ} {e : Dimensions} → e ≡ found x.dims (λ g. g) D.one → a ≡ exponents_of e → b ≡ marks_by x ls → y ≡ a → z ≡ b → put_mid 24 8 (put_mid 0 24 (replicate 32 0) y) z ≡ kind_by x ls
 unfolding kind_by
-kind_made x d t f r {a} {b} {y} {z} {e} i j k p q =
+kind_made x ls {a} {b} {y} {z} {e} i j k p q =
     let l : length a ≡ 24 = ap length j ∙ exponents_length e in
-    let m : length b ≡ 8 = ap length k ∙ marks_length x d t f r in
+    let m : length b ≡ 8 = ap length k ∙ marks_length x ls in
     let u = put_mid 0 24 (replicate 32 0) y in
     two_parts a b 24 8 (put_mid-paste 0 24 (replicate 32 0) y a 24 p refl (sym l)) (put_mid-paste 24 8 u z b 8 q refl (sym m)) l m ∙ rw (j, i, k)
 
--- kind k of those at the lists' links
-pub kind_listed : (s : List ℕ) (ds ts fs rs : List (Option ℕ)) (k : ℕ) {p : ℕ} {w : List ℕ} → p ≡ kind_at k → w ≡ kind_by (kind_from s p) (get_or ds k None) (get_or ts k None) (get_or fs k None) (get_or rs k None) → (32 ≤ length w) × (take 32 w ≡ kind_in s ds ts fs rs k)
+-- kind k of those at the list's links
+pub kind_listed : (s : List ℕ) (ls : List Links) (k : ℕ) {p : ℕ} {w : List ℕ} → p ≡ kind_at k → w ≡ kind_by (kind_from s p) (get_or ls k no_links) → (32 ≤ length w) × (take 32 w ≡ kind_in s ls k)
 unfolding kind_in
-kind_listed s ds ts fs rs k {p} {w} e q =
-    let l : length w ≡ 32 = ap length q ∙ kind_length (kind_from s p) (get_or ds k None) (get_or ts k None) (get_or fs k None) (get_or rs k None) in
+kind_listed s ls k {p} {w} e q =
+    let l : length w ≡ 32 = ap length q ∙ kind_length (kind_from s p) (get_or ls k no_links) in
     (omega arith, take_all 32 w (omega arith) ∙ q ∙ rw e)

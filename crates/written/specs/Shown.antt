@@ -2,7 +2,7 @@
 use Rattle.std.specs.Prelude.{ℕ, zero, suc, ◌+◌, ◌*◌, ◌/◌, ◌%◌, Bool, cond, not, ◌&&◌, List, [], ◌∷◌, ◌++◌, eqb, leb, length, get_or, replicate}
 use Rattle.std.specs.declared.option.Option.{Option}
 use Rattle.laws.specs.Options.{found, is_some}
-use Rattle.laws.specs.Ranges.{first, tab, overlay}
+use Rattle.laws.specs.Ranges.{first, below, tab, overlay}
 use Rattle.dimension.specs.Dimension as D
 use Rattle.rules.specs.Kinds.{op_word}
 use Rattle.rules.specs.Layout.{kind_count, row_count}
@@ -10,6 +10,7 @@ use Rattle.rules.specs.Catalog.{Kind, Row, Catalog, id_at, kind_at, kind_from, r
 use Rattle.rules.specs.Table.{entries_of, in_force, index_word, kind_word, table_word}
 use Rattle.std.specs.declared.option.Option.TheVariants.{None}
 use Rattle.table.specs.Shown.{exponents_of}
+use Rattle.written.specs.declared.links.Links.{Links}
 use Rattle.written.specs.declared.rows.Named.{Named}
 
 -- f 0, .., f (n - 1), one after the other
@@ -22,26 +23,34 @@ flat f (suc n) = flat f n ++ f n
 unfoldable pub link_of : List ℕ → ℕ → ℕ → Option ℕ
 link_of s at k = link (catalog_in s) (id_at s (kind_at k + at))
 
--- the first of n links that leads to j
-unfoldable pub first_to : List (Option ℕ) → ℕ → ℕ → Option ℕ
-first_to links n j = first (λ i. meant j (get_or links i None)) n
+-- the first of n kinds whose id at byte `at` names j
+unfoldable pub first_to : List ℕ → ℕ → ℕ → ℕ → Option ℕ
+first_to s at n j = first (λ i. meant j (link_of s at i)) n
+
+-- what is listed of kind k when n kinds are seen: what its own ids name, if it is one of them, and who names it
+unfoldable pub links_by : List ℕ → ℕ → ℕ → Links
+links_by s n k = record { difference = below n None (link_of s 32) k; target = below n None (link_of s 64) k; named = first_to s 32 n k; rate = first_to s 64 n k }
+
+-- past the kinds nothing is listed
+abbrev pub no_links : Links
+no_links = record { difference = None; target = None; named = None; rate = None }
 
 -- ---- kinds
 -- the role of a kind with difference d that is first named as a difference by f
 unfoldable pub role_by : Option ℕ → Option ℕ → ℕ
 role_by d f = cond (is_some d) 1 (cond (is_some f) 2 0)
 
--- the marks of what is declared, by its links: difference, rate-of, who first names it as a difference, and its rate
-unfoldable pub marks_by : Kind → Option ℕ → Option ℕ → Option ℕ → Option ℕ → List ℕ
-marks_by x d t f r = cond (is_some x.dims) 1 0 ∷ x.grade ∷ role_by d f ∷ index_word d ∷ index_word t ∷ index_word r ∷ 0 ∷ 0 ∷ []
+-- the marks of what is declared, by its links
+unfoldable pub marks_by : Kind → Links → List ℕ
+marks_by x l = cond (is_some x.dims) 1 0 ∷ x.grade ∷ role_by l.difference l.named ∷ index_word l.difference ∷ index_word l.target ∷ index_word l.rate ∷ 0 ∷ 0 ∷ []
 
 -- its 32 words
-unfoldable pub kind_by : Kind → Option ℕ → Option ℕ → Option ℕ → Option ℕ → List ℕ
-kind_by x d t f r = exponents_of (found x.dims (λ e. e) D.one) ++ marks_by x d t f r
+unfoldable pub kind_by : Kind → Links → List ℕ
+kind_by x l = exponents_of (found x.dims (λ e. e) D.one) ++ marks_by x l
 
--- kind k by the lists of links
-unfoldable pub kind_in : List ℕ → List (Option ℕ) → List (Option ℕ) → List (Option ℕ) → List (Option ℕ) → ℕ → List ℕ
-kind_in s ds ts fs rs k = kind_by (kind_from s (kind_at k)) (get_or ds k None) (get_or ts k None) (get_or fs k None) (get_or rs k None)
+-- kind k by the list of links
+unfoldable pub kind_in : List ℕ → List Links → ℕ → List ℕ
+kind_in s ls k = kind_by (kind_from s (kind_at k)) (get_or ls k no_links)
 
 -- word i of all kinds
 unfoldable pub kinds_word : Catalog → ℕ → ℕ

@@ -1,56 +1,53 @@
-// What the ids of kinds name, as lists.
-ghost use Rattle.std.specs.Prelude.{◌≡◌, ◌&&◌, ◌≤◌, length, get_or, ltb, not, take};
-ghost use Rattle.std.specs.declared.option.Option.TheVariants.{None};
-ghost use Rattle.laws.specs.Options.{is_some};
+// What the ids of kinds name, as a list.
+ghost use Rattle.std.specs.Prelude.{◌≡◌, ◌≤◌, length, replicate};
 ghost use Rattle.laws.specs.Ranges.{tab};
 ghost use Rattle.rules.specs.Layout as layout;
 ghost use Rattle.rules.specs.Table.{index_word};
-ghost use Rattle.written.specs.Shown.{link_of, first_to};
+ghost use Rattle.written.specs.Shown.{links_by, no_links};
 
 use crate::keyed::Keyed;
 use catalog::{kind_count, kind_place};
 
-// The word of what an id names.
+// What is listed of a kind: its difference, the kind that it is the rate of, the first kind that names it as a difference, and the first that is its rate.
+#[derive(Clone, Copy)]
+pub(crate) struct Links {
+    pub(crate) difference: Option<u16>,
+    pub(crate) target: Option<u16>,
+    pub(crate) named: Option<u16>,
+    pub(crate) rate: Option<u16>,
+}
+
+pub(crate) const NO_LINKS: Links = Links {
+    difference: None,
+    target: None,
+    named: None,
+    rate: None,
+};
+
+// The word of what an id names. 65,535 says none in a table's words, which are handed out as numbers.
 pub(crate) fn index_word(link: Option<u16>) -> u16
     ensures { result ≡ index_word link }
 {
     link.unwrap_or(65535)
 }
 
-// What the ids at byte `at` of the kinds name: the difference at 32, what a kind is the rate of at 64.
-pub(crate) fn links_at(keyed: Keyed, at: u32) -> [Option<u16>; 240]
-    requires { at ≤ 64 }
-    ensures { take (layout.kind_count keyed.entry.image.now) result ≡ tab (link_of keyed.entry.image.now at) (layout.kind_count keyed.entry.image.now) }
+// Lists the links of all kinds, with nothing past the last. A kind that an id names may come before or after.
+pub(crate) fn list_links(keyed: Keyed, links: &mut [Links])
+    requires links_value { links.old ≡ replicate (length links.old) no_links }
+    requires image_bound { layout.kind_count keyed.image.now ≤ length links.old }
+    ensures { links.new ≡ tab (links_by keyed.entry.image.now (layout.kind_count keyed.entry.image.now)) (length links.old) }
 {
-    let mut links: [Option<u16>; 240] = [None; 240];
     for k in 0..kind_count(keyed.image) {
-        links[k as usize] = keyed.link(kind_place(k) + at);
-    }
-    links
-}
-
-// Whether no link to j is found yet, where j has a place.
-fn is_free(found: &[Option<u16>], j: usize) -> bool
-    ensures { result ≡ (ltb j (length found.now) && not (is_some (get_or found.now j None))) }
-{
-    if j < found.len() {
-        return found[j].is_none();
-    }
-    false
-}
-
-// For each kind the first of n links that leads to it.
-pub(crate) fn firsts(links: &[Option<u16>], n: u16) -> [Option<u16>; 240]
-    requires { n ≤ length links.now }
-    ensures { result ≡ tab (first_to links.now n) 240 }
-{
-    let mut found: [Option<u16>; 240] = [None; 240];
-    for k in 0..n {
-        if let Some(j) = links[k as usize] {
-            if is_free(&found, j as usize) {
-                found[j as usize] = Some(k);
-            }
+        let p = kind_place(k);
+        let difference = keyed.link(p + 32);
+        let target = keyed.link(p + 64);
+        links[k as usize].difference = difference;
+        links[k as usize].target = target;
+        if let Some(d) = difference {
+            links[d as usize].named = links[d as usize].named.or(Some(k));
+        }
+        if let Some(g) = target {
+            links[g as usize].rate = links[g as usize].rate.or(Some(k));
         }
     }
-    found
 }

@@ -4,7 +4,7 @@ ghost use Rattle.laws.specs.Options.{is_some};
 ghost use Rattle.rules.specs.Catalog.{kind_from};
 ghost use Rattle.written.specs.Shown.{role_by, marks_by, kind_by};
 
-use crate::links::index_word;
+use crate::links::{Links, index_word};
 use catalog::{dims_at, grade_at, is_given};
 use table::{FLAG, Marks, words_of};
 
@@ -34,39 +34,25 @@ fn flag(image: &[u8], p: u32) -> u32
 
 // The last eight words of the kind at p, by its links.
 #[tactic(auto, unfolding(crate::specs::Shown::marks_by))]
-fn mark_words(
-    image: &[u8],
-    p: u32,
-    difference: Option<u16>,
-    target: Option<u16>,
-    named: Option<u16>,
-    rate: Option<u16>,
-) -> Marks
-    ensures { result ≡ marks_by (kind_from image.now p) difference target named rate }
+fn mark_words(image: &[u8], p: u32, links: Links) -> Marks
+    ensures { result ≡ marks_by (kind_from image.now p) links }
 {
     table::mark_words(
         flag(image, p),
         grade_at(image, p) as u32,
-        role(difference, named),
-        index_word(difference),
-        index_word(target),
-        index_word(rate),
+        role(links.difference, links.named),
+        index_word(links.difference),
+        index_word(links.target),
+        index_word(links.rate),
     )
 }
 
 // The words of the kind at p, by its links.
-pub(crate) fn kind_words(
-    image: &[u8],
-    p: u32,
-    difference: Option<u16>,
-    target: Option<u16>,
-    named: Option<u16>,
-    rate: Option<u16>,
-) -> [u32; 32]
-    ensures { result ≡ kind_by (kind_from image.now p) difference target named rate }
+pub(crate) fn kind_words(image: &[u8], p: u32, links: Links) -> [u32; 32]
+    ensures { result ≡ kind_by (kind_from image.now p) links }
 {
     let exponents = words_of(dims_at(image, p));
-    let marks = mark_words(image, p, difference, target, named, rate);
+    let marks = mark_words(image, p, links);
     let mut w = [0u32; 32];
     w[..FLAG].copy_from_slice(&exponents);
     w[FLAG..].copy_from_slice(&marks);

@@ -24,7 +24,8 @@ pub(crate) const NONE_NAMED: Named = Named {
     result: None,
 };
 
-// The words that a row enters: the first `count` of them.
+// The words that a row enters: the first `count` of them. A slice has no array to borrow from once `entries_at` is done, and an Option would still
+// need the count, which is 4 or 8.
 #[derive(Clone, Copy)]
 struct Entries {
     words: [u32; 8],
@@ -91,7 +92,8 @@ fn entries_at(image: &[u8], p: u32, named: Named) -> Entries
     }
 }
 
-// Writes the rows in force of an image in front of `words`, in declared order, by what their ids name; how many words these are.
+// Writes the rows in force of an image in front of `words`, in declared order, by what their ids name; how many words these are. They are written in
+// place and counted: there is no heap, and memory is fixed.
 pub(crate) fn rows_words(image: &[u8], named: &[Named], words: &mut [u32]) -> usize
     requires image_bound { layout.row_count image.now ≤ 200 }
     requires named_len { length named.now ≡ 200 }

@@ -75,7 +75,8 @@ fn fits(image: &[u8], n: usize) -> bool
 }
 
 // The words that a compilation writes, in two parts: the front over that of the lent words t, and the rows in force, with what their ids name. No
-// rows and nothing named, and t as it was, where a count is over its limit or t is too short.
+// rows and nothing named, and t as it was, where a count is over its limit or t is too short. The zeros stand for no rows, and not an Option: a caller
+// asks for nothing that `check_lent` refuses, so that a None would be a case that never comes.
 #[tactic(auto, unfolding(crate::specs::Shown::fits_in, crate::specs::Shown::rows_for, crate::specs::Shown::named_for, crate::specs::Shown::front_after))]
 pub fn table_words(image: &[u8], t: &mut [u32]) -> Written
     ensures rows_value { result.rows ≡ rows_for image.now (length t.old) }

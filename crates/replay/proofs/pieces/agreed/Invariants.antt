@@ -3,4 +3,4 @@ use Prim.Native.Nat.{◌≤◌}
 use Rattle.replay.proofs.pieces.agreed.Given as goal
 
 abbrev pub invariant-loop : goal.invariant-loop
-invariant-loop l = (l.count ≤ l.counter) × (l.at ≤ 4413323785)
+invariant-loop g l = l.count ≤ l.counter

@@ -7,4 +7,4 @@ use Rattle.written.specs.Shown.{flat, kind_in}
 use Rattle.written.proofs.kinds.kinds_by.Given as goal
 
 abbrev pub invariant-loop-k : goal.invariant-loop-k
-invariant-loop-k l = (length l.t ≡ length l.initial.t) × (32 * l.k ≡ length (flat (kind_in l.image l.differences l.targets l.named l.rates) l.k)) × (l.t ≡ overlay (flat (kind_in l.image l.differences l.targets l.named l.rates) l.k) l.initial.t)
+invariant-loop-k l = (length l.t ≡ length l.initial.t) × (32 * l.k ≡ length (flat (kind_in l.image l.links) l.k)) × (l.t ≡ overlay (flat (kind_in l.image l.links) l.k) l.initial.t)
