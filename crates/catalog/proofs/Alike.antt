@@ -1,13 +1,15 @@
 -- An id is blank, and two ids are the same, just where each byte says so. Assumes nothing.
 use Prim.Native.Nat.{ℕ, zero, suc, ◌+◌, ◌<◌, ◌≤◌}
 use mathlib.Core.Path.{◌≡◌, refl, sym, ◌∙◌, ap, ap₂, subst}
-use mathlib.Core.Bool.{Bool, true, false, ◌&&◌}
+use mathlib.Core.Bool.{Bool, true, false, not, ◌&&◌}
 use mathlib.Core.List.{List, [], ◌∷◌, ◌++◌}
 use Rattle.std.specs.declared.option.Option.{Option}
 use Rattle.std.specs.declared.option.Option.TheVariants.{None, Some}
 use lib.Dec.{eqb}
 use lib.ListN.{length, take, drop}
 use native.Mathlib.Omega.{arith}
+use borrow.Author.Tests.{not-true}
+use Rattle.laws.proofs.All.{all_here}
 use Rattle.std.proofs.lemmas.List.{length-take-le, take_all, ext_get_or, get_or-take, get_or-drop}
 use Rattle.std.specs.Option.{IfSome, MatchOption}
 use Rattle.std.specs.Array.{IsFirstChunk}
@@ -57,6 +59,13 @@ module _ (s : List ℕ) (p : ℕ) where
   pub same_ids : (t : List ℕ) (q : ℕ) → same (id_at s p) (id_at t q) ≡ all (bytes_alike s p t q) 32
   unfolding id_at bytes_alike
   same_ids t q = same_tab (λ i. byte s (p + i)) (λ i. byte t (q + i)) 32
+
+  -- one byte that tells
+  pub not_blank : (i : ℕ) {b : Bool} → i < 32 → b ≡ byte_zero s p i → not b ≡ true → false ≡ blank (id_at s p)
+  not_blank i {b} h e q = all_here (byte_zero s p) i 32 h e (not-true b q) ∙ sym blank_id
+
+  pub not_same : (q i : ℕ) {b : Bool} → i < 32 → b ≡ bytes_alike s p s q i → not b ≡ true → false ≡ same (id_at s p) (id_at s q)
+  not_same q i {b} h e f = all_here (bytes_alike s p s q) i 32 h e (not-true b f) ∙ sym (same_ids s q)
 
   -- 32 bytes cut out are the id
   pub id_cut : 32 ≤ length (drop p s) → take 32 (drop p s) ≡ id_at s p

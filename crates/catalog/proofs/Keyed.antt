@@ -1,18 +1,23 @@
 -- Ids found with the help of their keys: equal ids have equal keys, so with an image's own keys every id is found as without. Assumes nothing.
 use Prim.Native.Nat.{ℕ, zero, suc, ◌+◌, ◌*◌, ◌<◌, ◌≤◌}
-use mathlib.Core.Path.{◌≡◌, refl, sym, ◌∙◌, ap, ap₂}
-use mathlib.Core.Bool.{Bool, true, false, cond, ◌&&◌}
+use mathlib.Core.Path.{◌≡◌, refl, sym, ◌∙◌, ap, ap₂, subst}
+use mathlib.Core.Bool.{Bool, true, false, cond, ◌&&◌, ◌||◌}
 use mathlib.Core.List.{List}
 use Rattle.std.specs.declared.option.Option.TheVariants.{None, Some}
+use mathlib.Core.Logic.{⊎_elim}
+use native.Mathlib.Nat.{eq-or-lt_of_le, le_of_suc-le-suc, not-suc-le-zero}
+use native.Mathlib.Numerals.{add-one}
 use native.Mathlib.Omega.{arith}
 use borrow.Author.Tests.{le-leb, lt-leb, ltb-true, leb-true, leb-false, eqb-true, eq-eqb}
 use lib.Dec.{eqb, ltb, leb}
-use lib.ListN.{length, get_or, replicate, get_or-append}
-use Rattle.laws.specs.Options.{or_else}
+use lib.ListN.{length, take, drop, get_or, replicate, get_or-append}
+use Rattle.std.proofs.lemmas.List.{length-take-le, length-drop, get_or-take, get_or-drop}
+use Rattle.std.specs.List.{IsAnyAnswer}
+use Rattle.laws.specs.Options.{is_some, or_else}
 use Rattle.laws.specs.Ranges.{first, first_from, sum, tab}
 use Rattle.laws.proofs.All.{all_at}
 use Rattle.laws.proofs.First.{first_misses, first_same}
-use Rattle.laws.proofs.FirstFrom.{from_start, from_split}
+use Rattle.laws.proofs.FirstFrom.{from_start, from_split, any_next}
 use Rattle.laws.proofs.Overlay.{overlay_length}
 use Rattle.laws.proofs.Tab.{length_tab, tab_at}
 use Rattle.rules.specs.Bytes.{byte, le2}
@@ -31,6 +36,37 @@ fits_past_law keys key k h q = rw (le-leb (length keys) k h) q
 pub fits_listed : (keys : List ℕ) (key k : ℕ) {v : Bool} → k < length keys → v ≡ eqb (get_or keys k 0) key → v ≡ key_fits keys key k
 unfolding key_fits
 fits_listed keys key k h q = rw (lt-leb (length keys) k h) q
+
+-- ---- a key looked for among those from place p on
+module _ (test : ℕ → Bool) (p : ℕ) where
+  none_from : (n : ℕ) → ((i : ℕ) → i < n → test (p + i) ≡ false) → first_from test p n ≡ None
+  unfolding first_from
+  none_from zero h = refl
+  none_from (suc n) h = rw (first_from, none_from n (λ i l. h i (omega arith)), h n (omega arith))
+
+  or_true : (b : Bool) → (b || true) ≡ true
+  or_true true = refl
+  or_true false = refl
+
+  some_from : (n i : ℕ) → i < n → test (p + i) ≡ true → is_some (first_from test p n) ≡ true
+  some_from zero i l t = absurd (not-suc-le-zero l)
+  some_from (suc n) i l t = rw (← add-one n, ← any_next test p n refl refl) (⊎_elim (λ (z : i ≡ n). rw (← z, t) (or_true _)) (λ m. rw (some_from n i m t) refl) (eq-or-lt_of_le (le_of_suc-le-suc l)))
+
+pub any_key : (keys : List ℕ) (key p n : ℕ) {m : ℕ} {v : Bool} → p + n ≤ length keys → m ≡ n → IsAnyAnswer (λ y b. eqb y key ≡ b) (take m (drop p keys)) v → v ≡ is_some (first_from (key_fits keys key) p n)
+any_key keys key p n {m} {v} h q a = go v (subst (λ (k : ℕ). IsAnyAnswer (λ y b. eqb y key ≡ b) (take k (drop p keys)) v) q a)
+  where
+    enough : n ≤ length (drop p keys)
+    enough = rw (length-drop p keys) (omega (arith, h))
+
+    there : (i : ℕ) → i < n → get_or (take n (drop p keys)) i 0 ≡ get_or keys (p + i) 0
+    there i l = get_or-take n (drop p keys) i 0 l ∙ get_or-drop p keys i 0
+
+    told : (i : ℕ) (b : Bool) → i < n → eqb (get_or (take n (drop p keys)) i 0) key ≡ b → key_fits keys key (p + i) ≡ b
+    told i b l e = sym (fits_listed keys key (p + i) (omega (arith, h)) (sym e ∙ ap (λ (x : ℕ). eqb x key) (there i l)))
+
+    go : (v : Bool) → IsAnyAnswer (λ y b. eqb y key ≡ b) (take n (drop p keys)) v → v ≡ is_some (first_from (key_fits keys key) p n)
+    go true m = sym (some_from (key_fits keys key) p n m.0 (omega (arith, m.1, length-take-le n (drop p keys) enough)) (told m.0 true (omega (arith, m.1, length-take-le n (drop p keys) enough)) (m.2 0)))
+    go false m = ap is_some (sym (none_from (key_fits keys key) p n (λ i l. told i false l (m i 0 (omega arith) (omega (arith, l, length-take-le n (drop p keys) enough))))))
 
 -- ---- kinds passed over: none of the first k has the key
 nowhere : (test : ℕ → Bool) (n : ℕ) → ((i : ℕ) → i < n → test i ≡ false) → first test n ≡ None

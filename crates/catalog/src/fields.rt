@@ -22,7 +22,7 @@ fn fraction(num: i32, den: u32) -> Rational
 fn exponent(num: u16, den: u16) -> Rational
     ensures { result ≡ or_zero (F.answer (I.twos 32768 num) den) }
 {
-    fraction(signed16(num), den as u32)
+    fraction(signed16(num), u32::from(den))
 }
 
 // Exponent b of the kind at p.
@@ -46,8 +46,8 @@ fn exponents_at(image: &[u8], p: u32) -> Dimensions
     Dimensions { powers }
 }
 
-// Whether the kind at p declares dimensions. The definition has one Option for this and the dimensions. They are asked apart, since the words of a
-// kind hold a flag in one place and exponents, or dimension one's, in another: `written` would take the Option apart again at each.
+// Whether the kind at p declares dimensions. It stands beside `dims_at`, and no Option of dimensions in place of both: both are public and answer for
+// every place, which a function that can't fail keeps, and where the flag alone is wanted the Option would have the dimensions made.
 #[tactic(auto, unfolding(rules::specs::Catalog::kind_from, rules::specs::Catalog::dims_at))]
 pub fn is_given(image: &[u8], p: u32) -> bool
     ensures { result ≡ is_some (kind_from image.now p).dims }

@@ -25,7 +25,8 @@ pub(crate) fn id_of(image: &[u8], p: u32) -> Option<&[u8; 32]>
 }
 
 // Whether an id is all zero. No byte ends the loop, so that many are looked at at once: with the plain loops alone, of `blank_at`, `same_at` and
-// `key_at`, kindcheck over the catalog large takes 2.82 million instructions in place of 2.07.
+// `key_at`, kindcheck over the catalog large takes 2.82 million instructions in place of 2.07. With `==` of arrays here and in `is_same` (proved) its
+// ids are found in 606 thousand in place of 568. With `for byte in id` (tried) the proof didn't close: `everys` speaks of an index.
 #[tactic(auto, using(laws::proofs::All::everys, crate::proofs::Alike::blank_whole), unfolding(crate::specs::Shown::byte_zero))]
 fn is_blank(id: &[u8; 32]) -> bool
     ensures { result ≡ blank id.now }
@@ -38,7 +39,7 @@ fn is_blank(id: &[u8; 32]) -> bool
 }
 
 // Whether the id at p is all zero.
-#[tactic(auto, using(laws::proofs::All::alls, crate::proofs::Alike::blank_id))]
+#[tactic(auto, using(laws::proofs::All::alls, crate::proofs::Alike::blank_id, crate::proofs::Alike::not_blank))]
 pub fn blank_at(image: &[u8], p: u32) -> bool
     ensures { result ≡ blank (id_at image.now p) }
 {
@@ -62,7 +63,7 @@ fn alike(image: &[u8], p: u32, q: u32, i: usize) -> bool
     byte_at(image, p as usize + i) == byte_at(image, q as usize + i)
 }
 
-// Whether two ids are the same. No byte ends the loop, so that many are compared at once; `is_blank` has what that saves.
+// Whether two ids are the same. No byte ends the loop, so that many are compared at once; `is_blank` has what that saves, and why i is counted.
 #[tactic(auto, using(laws::proofs::All::everys, crate::proofs::Alike::same_whole), unfolding(crate::specs::Shown::bytes_alike))]
 fn is_same(a: &[u8; 32], b: &[u8; 32]) -> bool
     ensures { result ≡ same a.now b.now }
@@ -75,7 +76,7 @@ fn is_same(a: &[u8; 32], b: &[u8; 32]) -> bool
 }
 
 // Whether the ids at p and q are the same.
-#[tactic(auto, using(laws::proofs::All::alls, crate::proofs::Alike::same_ids))]
+#[tactic(auto, using(laws::proofs::All::alls, crate::proofs::Alike::same_ids, crate::proofs::Alike::not_same))]
 pub fn same_at(image: &[u8], p: u32, q: u32) -> bool
     ensures { result ≡ same (id_at image.now p) (id_at image.now q) }
 {

@@ -8,35 +8,33 @@ ghost use Rattle.catalog.specs.Keys.{key_part, key_at, kind_key, key_count, keys
 
 use crate::ids::{blank_at, id_of, names};
 use crate::records::{kind_count, kind_place};
-use numbers::u16_at;
+use numbers::{u16_at, u16_of};
 
-// The keys of the kinds, zeros past them.
+// The keys of the kinds, zeros past them: an array of fixed size, since there is no heap.
 #[derive(Clone, Copy)]
 pub struct Keys {
     pub words: [u32; 240],
 }
 
-// What 16-bit number i of the id at p adds to its key: by its place, so that ids of the same numbers in another order differ.
+// What 16-bit number i of the id at p adds to its key: by its place, so that ids of the same numbers in another order differ. i goes by `as` here and in
+// `part_of`: it is below 16, so a `try_from` would have an error that no i gives.
 #[tactic(auto, unfolding(crate::specs::Keys::key_part))]
 fn key_part(image: &[u8], p: u32, i: usize) -> u32
     requires { i < 16 }
     ensures value { result ≡ key_part image.now p i }
     ensures upper_bound { result ≤ 1048560 }
 {
-    (i as u32 + 1) * (u16_at(image, p as usize + 2 * i) as u32)
+    (i as u32 + 1) * u32::from(u16_at(image, p as usize + 2 * i))
 }
 
-// The same of an id that is there, each byte read by itself, as in `numbers`, where a line says why; what it saves is said at
-// `is_blank`.
+// The same of an id that is there; what it saves is said at `is_blank`.
 #[tactic(auto, unfolding(crate::specs::Keys::key_part, rules::specs::Bytes::le2))]
 fn part_of(id: &[u8; 32], i: usize) -> u32
     requires { i < 16 }
     ensures value { result ≡ key_part id.now 0 i }
     ensures upper_bound { result ≤ 1048560 }
 {
-    let low = id[2 * i] as u32;
-    let high = id[2 * i + 1] as u32;
-    (i as u32 + 1) * (low + 256 * high)
+    (i as u32 + 1) * u32::from(u16_of(id[2 * i], id[2 * i + 1]))
 }
 
 #[tactic(auto, using(laws::proofs::Sum::sums), unfolding(crate::specs::Keys::key_at))]
@@ -83,6 +81,7 @@ fn key_count(image: &[u8]) -> u16
 }
 
 // The keys of the first 240 kinds.
+#[tactic(auto, using(laws::proofs::Tab::tab_none, laws::proofs::Tab::tab_next, laws::proofs::Tab::tab_end), unfolding(crate::specs::Keys::keys_in))]
 pub fn keys_of(image: &[u8]) -> Keys
     ensures words_value { result.words ≡ keys_in image.now }
     ensures words_len { length result.words ≡ 240 }
@@ -90,7 +89,7 @@ pub fn keys_of(image: &[u8]) -> Keys
     let n = key_count(image);
     let mut words = [0u32; 240];
     for k in 0..n {
-        words[k as usize] = kind_key(image, k);
+        words[usize::from(k)] = kind_key(image, k);
     }
     Keys { words }
 }
@@ -100,11 +99,7 @@ pub fn keys_of(image: &[u8]) -> Keys
 fn fits(keys: &[u32], key: u32, k: u16) -> bool
     ensures { result ≡ key_fits keys.now key k }
 {
-    let i = k as usize;
-    if keys.len() <= i {
-        return true;
-    }
-    keys[i] == key
+    keys.get(usize::from(k)).is_none_or(|own| *own == key)
 }
 
 // Whether kind k has this key and the id at p.
@@ -116,27 +111,23 @@ fn named_by(image: &[u8], keys: &[u32], p: u32, key: u32, k: u16) -> bool
     fits(keys, key, k) && names(image, k, p)
 }
 
-// Whether one of the sixteen keys from place `from` on, all of them there, is this one. None of them ends the loop, so that several are compared at
+// Whether one of the sixteen keys from place `from` on, all of them there, is this one. They are asked sixteen at a time, so that several are compared at
 // once: with the loop of `find_by` alone kindcheck over the catalog large takes 3.00 million instructions in place of 2.07.
-#[tactic(auto, using(laws::proofs::FirstFrom::anys), unfolding(crate::specs::Keys::key_fits))]
 fn any_of_sixteen(keys: &[u32], from: usize, key: u32) -> bool
     requires { from + 16 ≤ length keys.now }
     ensures { result ≡ is_some (first_from (key_fits keys.now key) from 16) }
 {
-    let mut any = false;
-    for i in 0..16 {
-        any = any | (keys[from + i] == key);
-    }
-    any
+    keys[from..from + 16].contains(&key)
 }
 
-// How many of the n kinds, sixteen at a time, are passed over: none of them has this key.
+// How many of the n kinds, sixteen at a time, are passed over: none of them has this key. By places, since `first` speaks of places: chunks would be turned
+// back to them.
 fn passed_over(keys: &[u32], key: u32, n: u16) -> u16
     ensures { (result ≤ n) × (first (key_fits keys.now key) result ≡ None) }
 {
     for block in 0..n / 16 {
         let k = 16 * block;
-        let from = k as usize;
+        let from = usize::from(k);
         if keys.len() < from + 16 || any_of_sixteen(keys, from, key) {
             return k;
         }
@@ -144,8 +135,9 @@ fn passed_over(keys: &[u32], key: u32, n: u16) -> u16
     16 * (n / 16)
 }
 
-// The first kind of the id at p, among those whose key in the list is that of the id.
-#[tactic(auto, using(laws::proofs::First::scan, crate::proofs::Keyed::over_named), unfolding(crate::specs::Keys::find_by))]
+// The first kind of the id at p, among those whose key in the list is that of the id. It answers for every list, of any length, so it is handed image and
+// keys one by one; an image with its own keys is a `KeyedImage`.
+#[tactic(auto, using(laws::proofs::First::scan, crate::proofs::Keyed::over_named, laws::proofs::First::first_here, crate::proofs::Keyed::by_here), unfolding(crate::specs::Keys::find_by))]
 pub fn find_by(image: &[u8], keys: &[u32], p: u32) -> Option<u16>
     ensures { result ≡ find_by image.now keys.now p }
 {

@@ -15,9 +15,7 @@ use Rattle.rules.specs.Refusal.{EmptyId, Duplicate}
 use Rattle.rules.specs.Catalog.{Catalog, id_at, kind_at, kind_from, catalog_in, blank, same, find}
 use Rattle.rules.specs.Compile.{id_rule}
 use Rattle.table.proofs.Links.{to_some, nowhere_none}
-use Rattle.catalog.specs.Keys.{keys_in, find_by}
 use Rattle.catalog.proofs.Found.{kind_in_law}
-use Rattle.catalog.proofs.Keyed.{own_find}
 use Rattle.error.specs.Shown.{fault}
 use Rattle.std.specs.declared.result.Result.{Result}
 use Rattle.std.specs.declared.result.Result.TheVariants.{Ok, Err}
@@ -33,11 +31,8 @@ module _ (s : List ℕ) (k : ℕ) {q : ℕ} (a : q ≡ kind_at k) (l : k < kind_
   unfolding kind_from
   id_at_law = rw (kind_in_law s k l, a)
 
-  -- ---- u is the first kind of the id, by the image's own keys
-  module _ {keys : List ℕ} (o : keys ≡ keys_in s) {u : Option ℕ} (d : u ≡ find_by s keys q) where
-    e : u ≡ find (catalog_in s) (id_at s q)
-    e = rw (own_find s o q) at d
-
+  -- ---- u is the first kind of the id
+  module _ {u : Option ℕ} (e : u ≡ find (catalog_in s) (id_at s q)) where
     found_first : {o : Option ℕ} → find (catalog_in s) (id_at s q) ≡ o → first (λ j. same ((catalog_in s).kind j).id ((catalog_in s).kind k).id) (kind_count s) ≡ o
     unfolding find catalog_in
     found_first p = rw id_at_law at p

@@ -6,8 +6,8 @@ ghost use Rattle.error.specs.Shown.{fault};
 use error::{Error, Fault};
 
 // Refused at kind, row or byte k.
-pub(crate) fn refused_at(error: Error, k: u16) -> Result<(), Fault>
+pub(crate) fn refused_at<T>(error: Error, k: u16) -> Result<T, Fault>
     ensures { result ≡ Err (fault k error) }
 {
-    Err(error.at(k as usize))
+    Err(error.at(usize::from(k)))
 }

@@ -15,7 +15,7 @@ use crate::kinds::check_kinds;
 use crate::links::{check_difference, check_dimensionless, check_time};
 use crate::rates::check_rate;
 use crate::rows::check_rows;
-use catalog::{keys_of, kind_count};
+use catalog::{KeyedImage, keys_of, kind_count};
 use error::Fault;
 use image::check_lent;
 use table::ROWS;
@@ -25,10 +25,13 @@ use written::table_words;
 fn check_declared(c: Declared) -> Result<(), Fault>
     ensures { result ≡ fine (kinds_ruled (catalog_in c.entry.image.now)) }
 {
-    let listed = keys_of(c.image);
-    let keys = listed.words;
+    let keys = keys_of(c.image).words;
+    let keyed = KeyedImage {
+        image: c.image,
+        keys: &keys,
+    };
     let n = kind_count(c.image);
-    check_kinds(n, |k| check_id(c.image, &keys, k))?;
+    check_kinds(n, |k| check_id(keyed, k))?;
     check_kinds(n, |k| check_difference(c, k))?;
     check_dimensionless(c)?;
     check_time(c)?;

@@ -1,5 +1,5 @@
 // 12 to 16: differences, the dimensionless and the time kind. That d or k is a kind of the image is said by a `requires`: a type of such numbers would
-// hold the image too, and both are plain numbers everywhere else.
+// hold the image too, and both are plain numbers everywhere else. A place in the header is a `u32`, which is a `usize` by `as`: there is no `From`.
 ghost use Rattle.std.specs.Prelude.{◌≡◌, ◌<◌};
 ghost use Rattle.rules.specs.Layout as layout;
 ghost use Rattle.rules.specs.Table as T;
@@ -14,7 +14,8 @@ use dimension::Dimensions;
 use error::{Error, Fault};
 use table::{difference_of, dimensionless, dims_of, grade_of, is_point, is_resolved, time};
 
-// Whether two kinds have the same dimensions, or both none.
+// Whether two kinds have the same dimensions, or both none. The words hold a flag and exponents apart, so there is no Option here to compare by `==`; to
+// make two of them first would be no plainer. By `equals`, here and below: its contract is the `D.equal` that the rules cite.
 fn same_dims(t: &[u32], a: u16, b: u16) -> bool
     ensures { result ≡ rule.same_dims ((T.kinds_of t.now).dims a) ((T.kinds_of t.now).dims b) }
 {
@@ -44,7 +45,8 @@ fn check_named(c: Declared, k: u16, d: u16) -> Result<(), Fault>
 
 // The difference of kind k. This rule, those of the dimensionless and the time kind, and that of rates ask alike: is the id blank, what does it name,
 // 12 where it names nothing. One function for the four would take five arguments (whether the id is blank, what it names, whom 12 names, where it
-// refuses, and a closure for the kind) in the place of these few lines.
+// refuses, and a closure for the kind) in the place of these few lines. Of the nearest two,
+// the dimensionless and the time kind, it would take four, for two functions of seven lines.
 #[tactic(auto, using(crate::proofs::Differences::differences))]
 pub(crate) fn check_difference(c: Declared, k: u16) -> Result<(), Fault>
     requires k_bound { k < layout.kind_count c.image.now }
@@ -63,7 +65,7 @@ pub(crate) fn check_difference(c: Declared, k: u16) -> Result<(), Fault>
 fn is_difference_of(t: &[u32], k: u16, j: u16) -> bool
     ensures { result ≡ meant k ((T.kinds_of t.now).difference j) }
 {
-    difference_of(t, j).is_some_and(|d| d == k)
+    difference_of(t, j) == Some(k)
 }
 
 // Whether a kind has k as its difference.
@@ -102,7 +104,7 @@ fn check_neutral(c: Declared, o: u16) -> Result<(), Fault>
     ensures { result ≡ ruled 12 (neutral_kind (catalog_in c.entry.image.now) o) }
 {
     if !is_linear_one(c.t, o) {
-        return refused_at(Error::InvalidDimensionlessKind(o), 12);
+        return Err(Error::InvalidDimensionlessKind(o).at(DIMENSIONLESS as usize));
     }
     Ok(())
 }
@@ -116,7 +118,7 @@ pub(crate) fn check_dimensionless(c: Declared) -> Result<(), Fault>
     }
     match dimensionless(c.t) {
         Some(o) => check_neutral(c, o),
-        None => refused_at(Error::Unknown(0), 12),
+        None => Err(Error::Unknown(0).at(DIMENSIONLESS as usize)),
     }
 }
 
@@ -128,7 +130,7 @@ fn check_instant(c: Declared, k: u16) -> Result<(), Fault>
     if is_point(c.t, k) & (grade_of(c.t, k) == 0) {
         return Ok(());
     }
-    refused_at(Error::InvalidTimeKind(k), 44)
+    Err(Error::InvalidTimeKind(k).at(TIME as usize))
 }
 
 #[tactic(auto, using(crate::proofs::Neutral::headers))]
@@ -140,6 +142,6 @@ pub(crate) fn check_time(c: Declared) -> Result<(), Fault>
     }
     match time(c.t) {
         Some(k) => check_instant(c, k),
-        None => refused_at(Error::Unknown(0), 44),
+        None => Err(Error::Unknown(0).at(TIME as usize)),
     }
 }

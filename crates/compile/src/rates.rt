@@ -47,7 +47,8 @@ fn check_fit(c: Declared, k: u16, g: u16, d: u16) -> Result<(), Fault>
     check_once(c, k, g)
 }
 
-// 18 to 21: kind k as the rate of g over the duration d.
+// 18 to 21: kind k as the rate of g over the duration d. Each test with what it names, in the order of this rule: a function of 19 would take as many
+// lines as the three tests would lose.
 #[tactic(auto, using(crate::proofs::Rated::rates))]
 fn check_over(c: Declared, k: u16, g: u16, d: u16) -> Result<(), Fault>
     requires k_bound { k < layout.kind_count c.image.now }

@@ -1,4 +1,5 @@
-// 12, 19 and 22 to 27: rows. The words t and rows are those of `Declared`, where rows are the ones before the row that is asked about.
+// 12, 19 and 22 to 27: rows. The words t and rows are those of `Declared`, where rows are the ones before the row that is asked about. With the row and
+// its number they go on as they are: a struct of the four would be opened at every use, and each contract would name the same four through it.
 ghost use Rattle.std.specs.Prelude.{◌≡◌, cond, not, ◌&&◌, ◌<◌, ◌≤◌, eqb};
 ghost use Rattle.laws.specs.Options.{is_some};
 ghost use Rattle.rules.specs.Layout as layout;
@@ -12,8 +13,8 @@ ghost use Rattle.compile.specs.Rows.{row_by_names, row_shown, pair_fresh, row_se
 use crate::answers::refused_at;
 use crate::declared::Declared;
 use catalog::{is_commutative, op_at, row_count, row_place};
-use derive::{Several, derive, resolve_by};
-use dimension::{Dimensions, ProductOp};
+use derive::{Graded, Several, derive, resolve_by};
+use dimension::ProductOp;
 use error::{Error, Fault};
 use fitting::carries;
 use joined::is_quotient;
@@ -54,9 +55,10 @@ fn row_at(c: Declared, i: u16) -> Result<Row, Fault>
     let op = op_at(c.image, p);
     let commutative = is_commutative(c.image, p);
     if commutative & is_quotient(op) {
-        return Err(Error::CommutativeQuotient(i).at(i as usize));
+        return refused_at(Error::CommutativeQuotient(i), i);
     }
-    row_by_names(c.named[i as usize], op, commutative).ok_or(Error::Unknown(i).at(i as usize))
+    let at = usize::from(i);
+    row_by_names(c.named[at], op, commutative).ok_or(Error::Unknown(i).at(at))
 }
 
 // Whether a row in force is for left, operation and right.
@@ -83,54 +85,41 @@ fn check_fresh(rows: &[u32], row: Row, i: u16) -> Result<(), Fault>
 
 // 26, 27: several kinds must fit. The result is one of them, so one other ends the search.
 #[tactic(auto, using(crate::proofs::RowSteps::steps))]
-fn check_several(
-    t: &[u32],
-    rows: &[u32],
-    row: Row,
-    i: u16,
-    dims: Dimensions,
-    grade: u32,
-) -> Result<(), Fault>
-    ensures { result ≡ ruled i (row_several (T.kinds_of t.now) (T.rows_of rows.now) row (at dims grade)) }
+fn check_several(t: &[u32], rows: &[u32], row: Row, i: u16, x: Graded) -> Result<(), Fault>
+    ensures { result ≡ ruled i (row_several (T.kinds_of t.now) (T.rows_of rows.now) row (at x.dims x.grade)) }
 {
     let op = row.op;
-    match resolve_by(t, row.left, op, row.right, dims, grade, row.result) {
+    match resolve_by(t, row.left, op, row.right, x.dims, x.grade, row.result) {
         Several::Is(k) => refused_at(Error::DerivedOperationRule(k), i),
         Several::Many => check_fresh(rows, row, i),
-        Several::Nothing => refused_at(Error::InvalidOperationRule(dims, grade), i),
+        Several::Nothing => refused_at(Error::InvalidOperationRule(x.dims, x.grade), i),
     }
 }
 
 // 25, 26, 27, of what the row's product is derived as.
 #[tactic(auto, using(crate::proofs::RowSteps::steps))]
-fn check_fit(
-    t: &[u32],
-    rows: &[u32],
-    row: Row,
-    i: u16,
-    dims: Dimensions,
-    grade: u32,
-) -> Result<(), Fault>
-    ensures { result ≡ ruled i (row_fits (T.kinds_of t.now) (T.rows_of rows.now) row (at dims grade)) }
+fn check_fit(t: &[u32], rows: &[u32], row: Row, i: u16, x: Graded) -> Result<(), Fault>
+    ensures { result ≡ ruled i (row_fits (T.kinds_of t.now) (T.rows_of rows.now) row (at x.dims x.grade)) }
 {
-    if !carries(t, dims, grade, row.result) {
-        return refused_at(Error::InvalidOperationRule(dims, grade), i);
+    if !carries(t, x.dims, x.grade, row.result) {
+        return refused_at(Error::InvalidOperationRule(x.dims, x.grade), i);
     }
-    check_several(t, rows, row, i, dims, grade)
+    check_several(t, rows, row, i, x)
 }
 
-// The derivation's refusals, then 25 to 27.
+// The derivation's refusals, then 25 to 27. A `match`, since each of the two is a step of the rule: by `map_err` under `?` it is no plainer.
 #[tactic(auto, using(crate::proofs::RowSteps::steps))]
 fn check_derived(t: &[u32], rows: &[u32], row: Row, i: u16) -> Result<(), Fault>
     ensures { result ≡ ruled i (row_derived (T.kinds_of t.now) (T.rows_of rows.now) row) }
 {
     match derive(t, row.left, row.op, row.right) {
-        Ok(x) => check_fit(t, rows, row, i, x.dims, x.grade),
+        Ok(x) => check_fit(t, rows, row, i, x),
         Err(e) => refused_at(e, i),
     }
 }
 
-// 23 and 19 for the result, then what is derived.
+// 23 and 19 for the result, then what is derived: each test with what it names, in the order of this rule, and asked once. The same tests of a product or
+// a rate have orders of their own.
 #[tactic(auto, using(crate::proofs::RowSteps::steps))]
 fn check_named(t: &[u32], rows: &[u32], row: Row, i: u16) -> Result<(), Fault>
     ensures { result ≡ ruled i (row_named (T.kinds_of t.now) (T.rows_of rows.now) row) }

@@ -135,7 +135,21 @@ module _ (K : Kinds) (l : ℕ) (op : ProductOp) (r : ℕ) {v : Result ℕ Error}
           let y : m ≡ g = cc in
           rw (ea, eb, ep, eq, ew, y)
 
--- and with them
+  -- and where there is none, why
+  pub with_none_law : {x : Error} {d : Result derivation.Graded Error} → v ≡ Err x → d ≡ Err x → d ≡ derived (rule.derive K l op r)
+  with_none_law {x} {d} h q = go (rule.derive K l op r) refl
+    where
+      go : (m : Answer Graded) → rule.derive K l op r ≡ m → d ≡ derived (rule.derive K l op r)
+      go (given y) z =
+          let u : ◌≡◌ {A = Result ℕ Error} (Err x) (Ok y.grade) = sym h ∙ e ∙ ap ruled_as z in
+          let b : true ≡ false = cc in
+          absurd (true≢false b)
+      go (refused y) z =
+          let u : ◌≡◌ {A = Result ℕ Error} (Err x) (Err (error_of y)) = sym h ∙ e ∙ ap ruled_as z in
+          let b : x ≡ error_of y = cc in
+          q ∙ ap Err b ∙ sym (ap derived z)
+
+-- the dimensions with the grade
 pub with_dims : (K : Kinds) (l : ℕ) (op : ProductOp) (r : ℕ) {g : ℕ} {d : Dimensions} → Ok g ≡ ruled_as (rule.derive K l op r) → d ≡ rule.joined op (dims_at K l) (dims_at K r)
     → Ok (record { dims = d; grade = g }) ≡ derived (rule.derive K l op r)
 with_dims K l op r e q = rw (of_told K l op r e refl, q)

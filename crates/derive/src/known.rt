@@ -1,4 +1,5 @@
-// The kinds that are known before any is looked for: the dimensionless kind is neutral, and a rate goes with its target.
+// The kinds that are known before any is looked for: the dimensionless kind is neutral, and a rate goes with its target. Table, operands and operation go
+// one by one, as the rules that the contracts cite take them: a struct of the four would be opened at every use.
 ghost use Rattle.std.specs.Prelude.{◌≡◌, cond, ◌||◌, eqb};
 ghost use Rattle.std.specs.declared.option.Option.TheVariants.{None, Some};
 ghost use Rattle.laws.specs.Options.{or_else};
@@ -9,7 +10,8 @@ ghost use Rattle.rules.specs.Arithmetic as rule;
 use dimension::{ProductOp, Rational};
 use table::{dimensionless, duration, rate_of, target_of};
 
-fn neutral_mul(o: u16, l: u16, r: u16) -> Option<u16>
+// Of two operands of a product, the one beside kind o.
+fn beside(o: u16, l: u16, r: u16) -> Option<u16>
     ensures { result ≡ cond (eqb r o) (Some l) (cond (eqb l o) (Some r) None) }
 {
     if r == o {
@@ -38,7 +40,7 @@ fn neutral_by(op: ProductOp, o: u16, l: u16, r: u16) -> Option<u16>
     ensures { result ≡ rule.neutral_by op o l r }
 {
     match op {
-        ProductOp::Mul => neutral_mul(o, l, r),
+        ProductOp::Mul => beside(o, l, r),
         ProductOp::Div => neutral_div(o, l, r),
         ProductOp::Dot => None,
         ProductOp::Wedge => None,
@@ -56,13 +58,7 @@ fn neutral(t: &[u32], l: u16, op: ProductOp, r: u16) -> Option<u16>
 fn rated_mul(t: &[u32], d: u16, l: u16, r: u16) -> Option<u16>
     ensures { result ≡ cond (eqb r d) ((kinds_of t.now).rate_of l) (cond (eqb l d) ((kinds_of t.now).rate_of r) None) }
 {
-    if r == d {
-        return target_of(t, l);
-    }
-    if l == d {
-        return target_of(t, r);
-    }
-    None
+    target_of(t, beside(d, l, r)?)
 }
 
 fn rated_div(t: &[u32], d: u16, l: u16, r: u16) -> Option<u16>
@@ -74,6 +70,7 @@ fn rated_div(t: &[u32], d: u16, l: u16, r: u16) -> Option<u16>
     None
 }
 
+// Not one function with `neutral_by` over two closures: the four cases stand in a match as the rule has them, and a call would have to name its closures.
 #[tactic(auto, unfolding(rules::specs::Arithmetic::rated_by))]
 fn rated_by(t: &[u32], op: ProductOp, d: u16, l: u16, r: u16) -> Option<u16>
     ensures { result ≡ rule.rated_by (kinds_of t.now) op d l r }

@@ -11,7 +11,7 @@ use dimension::{Dimensions, ProductOp};
 use fitting::{Beside, Fit, only_fit, seen_from};
 use table::words_of;
 
-// A kind, that there are several, or none: three cases, where an Option has two.
+// A kind, that there are several, or none: three cases, where an Option has two. Not `Fit`: `Beside::Others` names no second kind, so none can be handed on.
 #[derive(Clone, Copy)]
 pub enum Several {
     Is(u16),
@@ -19,7 +19,9 @@ pub enum Several {
     Nothing,
 }
 
-// Dimensions and a grade go one by one, as `resolve_by` is handed them and as `fitting` takes them: a `Graded` would be made and taken apart here.
+// Dimensions and a grade go one by one: the signature of `resolve_by` is public and stays, so that a caller who has the two needs no `Graded`, and the
+// crate `fitting` takes them apart.
+// From `Fit` by a match: it is made in this one place, so a `From` is longer.
 fn fitting(t: &[u32], d: Dimensions, g: u32) -> Several
     ensures { result ≡ several_of (K.candidates (kinds_of t.now) (at d g)) }
 {

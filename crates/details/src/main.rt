@@ -7,14 +7,11 @@ ghost use Rattle.std.specs.Prelude.{◌≡◌};
 ghost use Rattle.details.specs.Listed.{lists_twins, twin_count};
 
 use exports::{kind_compile, kind_formula};
-use printed::{formula_part, image_part};
+use printed::{ROOM, formula_part, image_part};
 use reading::read_full;
 use slices::front;
 use std::io;
 use table::own_rows;
-
-// As much as kindcheck reads; a formula that goes on past that is too long, whatever it says.
-const ROOM: usize = 63489;
 
 // The i-th number of a line.
 fn print_number(rt: &HostRuntime, i: usize, n: u64) -> io::Result<()> {
@@ -26,8 +23,8 @@ fn print_number(rt: &HostRuntime, i: usize, n: u64) -> io::Result<()> {
 
 // The numbers, a space between each two, and the line's end.
 fn print_numbers<T: Copy + Into<u64>>(rt: &HostRuntime, numbers: &[T]) -> io::Result<()> {
-    for i in 0..numbers.len() {
-        print_number(rt, i, numbers[i].into())?;
+    for (i, n) in numbers.iter().enumerate() {
+        print_number(rt, i, (*n).into())?;
     }
     println!(rt;)
 }
@@ -41,7 +38,7 @@ fn lists_twins(what: u32, number: u32) -> bool
     what == 2 && (number == 44 || number == 48)
 }
 
-// How many twins it lists.
+// How many twins it lists. A `u32` is a `usize` by `as`: there is no `From`.
 #[tactic(auto, using(laws::proofs::Cases::cases), unfolding(crate::specs::Listed::twin_count))]
 fn twin_count(words: [u32; 32]) -> usize
     ensures { result ≡ twin_count words }
@@ -60,6 +57,7 @@ fn tell_formula(rt: &HostRuntime, table: [u32; 9296], formula: &[u8]) -> io::Res
     print_numbers(rt, front(&twins, twin_count(answer)))
 }
 
+// 3 says that the image compiles. It is read back out of a word as the refusals are.
 fn tell(rt: &HostRuntime, input: &[u8]) -> io::Result<()> {
     let mut table = [0u32; 9296];
     let mut answer = [0u32; 32];

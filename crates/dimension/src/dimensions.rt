@@ -11,7 +11,8 @@ pub struct Dimensions {
     pub powers: [Rational; 12],
 }
 
-// The rule, exponent by exponent; none where one of them is over the limits.
+// The rule, exponent by exponent; none where one of them is over the limits. By places: the invariant says which of them are done, and over
+// `iter_mut().zip(b)`, in as many lines, it would have to speak of what is left.
 fn each<F: Fn(Rational, Rational) -> Option<Rational>>(
     a: [Rational; 12],
     b: [Rational; 12],
@@ -55,6 +56,7 @@ impl Dimensions {
         each(self.powers, [exponent; 12], Rational::times)
     }
 
+    // As of a fraction, by the name that the rules' `equal` has: a public promise, and callers that cite it need no law of the derived `==`.
     #[tactic(auto, using(crate::proofs::Places::pointwise_alike, crate::proofs::Signs::same_fraction), unfolding(crate::specs::Dimension::equal))]
     pub fn equals(self, other: Dimensions) -> bool
         ensures { result ≡ D.equal self other }

@@ -1,4 +1,5 @@
-// Grades 0 to 3 in the geometric algebra of three-dimensional space: of a product by four constant tables, and of a power.
+// Grades 0 to 3 in the geometric algebra of three-dimensional space: of a product by four constant tables, and of a power. A grade is a number, here and
+// in the crates above: it is a byte of an image and a word of a table, every number is answered, and an enum would be turned back for both.
 ghost use Rattle.std.specs.Prelude.{◌≡◌, ◌/◌, ◌%◌, ◌<◌};
 ghost use Rattle.dimension.specs.Grade as G;
 
@@ -52,7 +53,7 @@ pub fn product_grade(op: ProductOp, a: u8, b: u8) -> Option<u8>
     ensures { result ≡ G.product op a b }
 {
     if a <= 3 && b <= 3 {
-        return graded(entry(op, a as usize * 4 + b as usize));
+        return graded(entry(op, 4 * usize::from(a) + usize::from(b)));
     }
     None
 }
@@ -66,7 +67,7 @@ pub fn power_grade(a: u8, exponent: Rational) -> Option<u8>
         return graded(a);
     }
     if a == SCALAR {
-        return Some(0);
+        return Some(SCALAR);
     }
     None
 }

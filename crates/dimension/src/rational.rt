@@ -1,6 +1,6 @@
 // Exact exponents: fractions in lowest terms within 32-bit limits. Whatever is handed in, unreduced or over zero, the answer is the textbook's,
 // in lowest terms, or that this is over the limits. A 32-bit numerator over a 32-bit denominator keeps every sum and product exact in 64 bits.
-ghost use Rattle.std.specs.Prelude.{◌≡◌};
+ghost use Rattle.std.specs.Prelude.{◌≡◌, ◌≤◌, ◌+◌, ◌*◌};
 ghost use Rattle.std.proofs.Math.IntN.{sub_ℕ};
 ghost use Rattle.dimension.specs.Fraction as F;
 ghost use Rattle.dimension.specs.Integer as I;
@@ -23,7 +23,8 @@ const LIMIT: u64 = 2147483647;
 // The least whole number within the limits.
 const LOWEST: i64 = -2147483647;
 
-// num / den with its sign, if it is within the limits.
+// num / den with its sign, if it is within the limits. The sign stands beside: with it a numerator of 64 bits would need 65, and `signed` joins them once
+// they fit. Both numbers are held to one limit before they are cast: a `try_from` would let more denominators through.
 #[tactic(auto, using(crate::proofs::Signs::signed_size), unfolding(crate::specs::Fraction::limited, crate::specs::Fraction::within))]
 fn limited(negative: bool, num: u64, den: u64) -> Option<Rational>
     ensures { result ≡ F.limited (F.ratio (I.signed negative num) den) }
@@ -63,7 +64,7 @@ fn parted(up: u64, down: u64, den: u64) -> Option<Rational>
     }
 }
 
-// A whole number needs no divisor either.
+// A whole number needs no divisor either. The limits are not those of 32 bits, so a `try_from` alone would let one number more through.
 #[tactic(auto, using(crate::proofs::Whole::wholes))]
 fn whole(n: i64) -> Option<Rational>
     ensures { result ≡ F.answer n 1 }
@@ -80,23 +81,30 @@ fn whole(n: i64) -> Option<Rational>
     })
 }
 
-// The sum of any two fractions, the parts above and below zero by themselves.
+// The sum of a and another fraction, which is handed over by how far its numerator is above zero and how far below.
+fn combined(a: Rational, above: u32, below: u32, den: u32) -> Option<Rational>
+    requires above_bound { above ≤ 2147483648 }
+    requires below_bound { below ≤ 2147483648 }
+    ensures { result ≡ F.answer (sub_ℕ (I.up a.num * den + above * a.den) (I.down a.num * den + below * a.den)) (a.den * den) }
+{
+    let ups = cross(up(a.num), den, above, a.den);
+    let downs = cross(down(a.num), den, below, a.den);
+    parted(ups, downs, by(a.den, den))
+}
+
 #[tactic(auto, using(crate::proofs::Parts::sum_parts), unfolding(crate::specs::Fraction::sum))]
 fn sum(a: Rational, b: Rational) -> Option<Rational>
     ensures { result ≡ F.sum a b }
 {
-    let above = cross(up(a.num), b.den, up(b.num), a.den);
-    let below = cross(down(a.num), b.den, down(b.num), a.den);
-    parted(above, below, by(a.den, b.den))
+    combined(a, up(b.num), down(b.num), b.den)
 }
 
+// What b is above zero is taken away, and what it is below is added.
 #[tactic(auto, using(crate::proofs::Parts::difference_parts), unfolding(crate::specs::Fraction::difference))]
 fn difference(a: Rational, b: Rational) -> Option<Rational>
     ensures { result ≡ F.difference a b }
 {
-    let above = cross(up(a.num), b.den, down(b.num), a.den);
-    let below = cross(down(a.num), b.den, up(b.num), a.den);
-    parted(above, below, by(a.den, b.den))
+    combined(a, down(b.num), up(b.num), b.den)
 }
 
 #[tactic(auto, using(crate::proofs::Parts::product_parts), unfolding(crate::specs::Fraction::product))]
@@ -118,17 +126,19 @@ impl Rational {
         ensures { result ≡ F.answer num den }
     {
         if den == 1 {
-            return whole(num as i64);
+            return whole(i64::from(num));
         }
-        parted(up(num) as u64, down(num) as u64, den as u64)
+        parted(u64::from(up(num)), u64::from(down(num)), u64::from(den))
     }
 
+    // `add`, `minus` and `times` are alike but for the operation, in 64 bits for whole numbers and by parts for fractions, and for the law
+    // that they cite: one function over both operations would be handed two closures and be no plainer.
     #[tactic(auto, using(crate::proofs::Whole::widened_sum))]
     pub fn add(self, other: Rational) -> Option<Rational>
         ensures { result ≡ F.sum self other }
     {
         if self.den == 1 && other.den == 1 {
-            return whole(self.num as i64 + other.num as i64);
+            return whole(i64::from(self.num) + i64::from(other.num));
         }
         sum(self, other)
     }
@@ -138,7 +148,7 @@ impl Rational {
         ensures { result ≡ F.difference self other }
     {
         if self.den == 1 && other.den == 1 {
-            return whole(self.num as i64 - other.num as i64);
+            return whole(i64::from(self.num) - i64::from(other.num));
         }
         difference(self, other)
     }
@@ -148,7 +158,7 @@ impl Rational {
         ensures { result ≡ F.product self other }
     {
         if self.den == 1 && other.den == 1 {
-            return whole(self.num as i64 * other.num as i64);
+            return whole(i64::from(self.num) * i64::from(other.num));
         }
         product(self, other)
     }
@@ -157,7 +167,11 @@ impl Rational {
     pub fn negate(self) -> Option<Rational>
         ensures { result ≡ F.opposite self }
     {
-        parted(down(self.num) as u64, up(self.num) as u64, self.den as u64)
+        parted(
+            u64::from(down(self.num)),
+            u64::from(up(self.num)),
+            u64::from(self.den),
+        )
     }
 
     #[tactic(auto, using(crate::proofs::Signs::same_fraction))]
@@ -194,7 +208,7 @@ impl Rational {
         (n <= 32768)
             & (0 < self.den)
             & (self.den <= 32767)
-            & (gcd(n, self.den as u64) == 1)
+            & (gcd(n, u64::from(self.den)) == 1)
             & (above <= 32767)
     }
 }

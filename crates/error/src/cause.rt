@@ -1,5 +1,5 @@
 // Why something is refused: a case for each cause of document 01's table, named after the Rust's errors where it has one. A case carries what 01
-// returns, the dimensions too, and what names the twins.
+// returns, the dimensions too, and what names the twins, one by one, as the rules' refusals have them.
 ghost use Rattle.std.specs.Prelude.{◌≡◌};
 ghost use Rattle.error.specs.Shown.{fault};
 
@@ -38,7 +38,8 @@ pub enum Error {
     NoTable,
     NoKind(u16),
     KindMismatch(u16, u16),
-    // the code of the token, here and in NumberTerm: only handed out, and those of powers, absolute and compare are among them, which no `Op` is
+    // the code of the token, here and in NumberTerm: only handed out, and those of powers, absolute and compare are among them, which no `Op` is. The third
+    // number is 65,535 where 43 returns that for a kind that isn't there: the rules' refusal has it so, and `say` alone reads it
     UnsupportedOperation(u8, u16, u16),
     // left, operation, right and how many kinds fit
     UnresolvedTwin(u16, ProductOp, u16, u16),

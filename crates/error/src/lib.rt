@@ -8,5 +8,5 @@ mod said;
 
 pub use cause::Error;
 pub use fault::Fault;
-pub use op::{Op, op_code};
+pub use op::{ABSOLUTE, COMPARE, EXACT, INEXACT, Op, op_code};
 pub use said::{Said, say};

@@ -7,6 +7,15 @@ ghost use Rattle.error.specs.Shown.{op_as, op_of};
 
 use dimension::ProductOp;
 
+// The codes of the tokens that are no operation's; the operations have theirs by name. A code goes out in a refusal, as a number.
+pub const EXACT: u8 = 8;
+
+pub const INEXACT: u8 = 9;
+
+pub const ABSOLUTE: u8 = 10;
+
+pub const COMPARE: u8 = 11;
+
 // What two kinds are combined by.
 #[derive(Clone, Copy)]
 pub enum Op {
@@ -16,7 +25,8 @@ pub enum Op {
 }
 
 impl Op {
-    // The operation whose token has this code, 2 to 7; none for any other.
+    // The operation whose token has this code, 2 to 7; none for any other. No `TryFrom`, here, and no `From` below: an operation of a row has a second
+    // number, its word in a table, so the name has to say which is meant, and of a code that is none there is nothing to tell in an error.
     #[tactic(auto, unfolding(rules::specs::Arithmetic::op_by))]
     pub fn from_code(code: u8) -> Option<Op>
         ensures { result ≡ option_map op_as (rule.op_by code) }

@@ -37,15 +37,14 @@ fn says_dims(number: u32, dims: Dimensions, grade: u32) -> Said
     ensures { result ≡ says number (Some dims) (grade ∷ []) }
 {
     Said {
-        number,
         dims: Some(dims),
-        count: 1,
-        values: [grade as usize, 0, 0, 0],
+        ..says(number, [grade as usize])
     }
 }
 
 // 65,535 is what document 01 returns for a kind that isn't there: a value that is handed out and that nothing here reads again. A product is handed
-// out as the code of its token for the same reason.
+// out as the code of its token for the same reason. A grade or a schema goes by `as`, as no `From` takes 32 bits to an index. It is no `From` itself: by
+// its name the laws speak of it (`said_told`).
 #[tactic(auto, unfolding(crate::specs::Shown::said_of))]
 pub fn say(e: Error) -> Said
     ensures { result ≡ said_of e }
@@ -56,38 +55,49 @@ pub fn say(e: Error) -> Said
         Error::Schema(v) => says(3, [v as usize]),
         Error::WrongByte(i) => says(4, [i]),
         Error::Short(n) => says(5, [n]),
-        Error::EmptyId(k) => says(10, [k as usize]),
-        Error::Duplicate(k) => says(11, [k as usize]),
-        Error::Unknown(i) => says(12, [i as usize]),
-        Error::AffineDimensionMismatch(k, d) => says(13, [k as usize, d as usize]),
-        Error::NestedAffineSpace(k, d) => says(14, [k as usize, d as usize]),
-        Error::InvalidDimensionlessKind(k) => says(15, [k as usize]),
-        Error::InvalidTimeKind(k) => says(16, [k as usize]),
-        Error::NoTimeKind(k, t) => says(17, [k as usize, t as usize, 65535]),
-        Error::PointRate(k, t, p) => says(18, [k as usize, t as usize, p as usize]),
-        Error::UnresolvedDimensions(k) => says(19, [k as usize]),
+        Error::EmptyId(k) => says(10, [usize::from(k)]),
+        Error::Duplicate(k) => says(11, [usize::from(k)]),
+        Error::Unknown(i) => says(12, [usize::from(i)]),
+        Error::AffineDimensionMismatch(k, d) => says(13, [usize::from(k), usize::from(d)]),
+        Error::NestedAffineSpace(k, d) => says(14, [usize::from(k), usize::from(d)]),
+        Error::InvalidDimensionlessKind(k) => says(15, [usize::from(k)]),
+        Error::InvalidTimeKind(k) => says(16, [usize::from(k)]),
+        Error::NoTimeKind(k, t) => says(17, [usize::from(k), usize::from(t), 65535]),
+        Error::PointRate(k, t, p) => says(18, [usize::from(k), usize::from(t), usize::from(p)]),
+        Error::UnresolvedDimensions(k) => says(19, [usize::from(k)]),
         Error::RateMismatch(d, g) => says_dims(20, d, g),
-        Error::AlsoRateOf(k) => says(21, [k as usize]),
-        Error::CommutativeQuotient(i) => says(22, [i as usize]),
+        Error::AlsoRateOf(k) => says(21, [usize::from(k)]),
+        Error::CommutativeQuotient(i) => says(22, [usize::from(i)]),
         Error::Point(l, op, r, k) => says(
             23,
-            [l as usize, op_code(op) as usize, r as usize, k as usize],
+            [
+                usize::from(l),
+                usize::from(op_code(op)),
+                usize::from(r),
+                usize::from(k),
+            ],
         ),
-        Error::Ungraded(l, r, a, b) => says(24, [l as usize, r as usize, a as usize, b as usize]),
+        Error::Ungraded(l, r, a, b) => says(
+            24,
+            [usize::from(l), usize::from(r), a as usize, b as usize],
+        ),
         Error::InvalidOperationRule(d, g) => says_dims(25, d, g),
-        Error::DerivedOperationRule(k) => says(26, [k as usize]),
-        Error::ConflictingOperationRule(l, r) => says(27, [l as usize, r as usize]),
-        Error::PowerOverLimits(k) => says(28, [k as usize]),
+        Error::DerivedOperationRule(k) => says(26, [usize::from(k)]),
+        Error::ConflictingOperationRule(l, r) => says(27, [usize::from(l), usize::from(r)]),
+        Error::PowerOverLimits(k) => says(28, [usize::from(k)]),
         Error::NoTable => says(40, [0]),
-        Error::NoKind(k) => says(41, [k as usize]),
-        Error::KindMismatch(x, a) => says(42, [x as usize, a as usize]),
-        Error::UnsupportedOperation(c, l, r) => says(43, [c as usize, l as usize, r as usize]),
-        Error::UnresolvedTwin(l, op, r, n) => says(44, [n as usize]),
+        Error::NoKind(k) => says(41, [usize::from(k)]),
+        Error::KindMismatch(x, a) => says(42, [usize::from(x), usize::from(a)]),
+        Error::UnsupportedOperation(c, l, r) => says(
+            43,
+            [usize::from(c), usize::from(l), usize::from(r)],
+        ),
+        Error::UnresolvedTwin(l, op, r, n) => says(44, [usize::from(n)]),
         Error::NoProductKind(d, g) => says_dims(45, d, g),
         Error::UngradedPower(g) => says(46, [g as usize]),
         Error::NoPowerKind(d) => says_dims(47, d, 0),
-        Error::UnresolvedPowerTwin(k, e, n) => says(48, [n as usize]),
-        Error::NumberTerm(c, k) => says(49, [c as usize, k as usize]),
+        Error::UnresolvedPowerTwin(k, e, n) => says(48, [usize::from(n)]),
+        Error::NumberTerm(c, k) => says(49, [usize::from(c), usize::from(k)]),
         Error::Malformed(p) => says(50, [p]),
     }
 }

@@ -5,7 +5,7 @@ ghost use Rattle.exports.specs.Part as P;
 
 use catalog::kind_place;
 
-// An empty part is told at 0: the record of its kind may be past the image's end.
+// An empty part is told at 0: the record of its kind may be past the image's end. A `u32` is a `usize` by `as`: there is no `From`.
 #[tactic(auto, using(laws::proofs::Cases::cases), unfolding(crate::specs::Part::kind_start))]
 pub(crate) fn kind_start(k: u16, n: usize) -> usize
     ensures { result ≡ P.kind_start k n }

@@ -14,10 +14,7 @@ use table::words_of;
 fn capped(n: usize) -> u32
     ensures { result ≡ S.capped n }
 {
-    if n < 4294967296 {
-        return n as u32;
-    }
-    4294967295
+    u32::try_from(n).unwrap_or(u32::MAX)
 }
 
 // The first three words, and zeros. The first says what the answer is, 0 to 3: a word of the C interface, not a type of the calls here.
@@ -63,7 +60,7 @@ pub(crate) fn compiled_words(_done: ()) -> [u32; 32]
 pub(crate) fn kind_words(k: u16) -> [u32; 32]
     ensures { result ≡ padded (S.kind_words k) }
 {
-    head(1, k as u32, 0)
+    head(1, u32::from(k), 0)
 }
 
 pub(crate) fn term_words(term: Term) -> [u32; 32]

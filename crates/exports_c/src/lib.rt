@@ -1,4 +1,5 @@
-// The same calls as in the crate `exports`, as a static library for programs in C and Rust: bindings/ has the header and the package.
+// The same calls as in the crate `exports`, as a static library for programs in C and Rust: bindings/ has the header and the package. They stand twice
+// since a crate is a library or a static library, and C's types have no Option, Result or enum.
 #![tactic(auto)]
 
 ghost use Rattle.std.specs.Prelude.{◌≡◌, true, length};

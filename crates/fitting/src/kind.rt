@@ -25,7 +25,7 @@ fn carries_words(t: &[u32], k: u16, w: &[u32], g: u32) -> bool
     same_exponents(t, k, w)
 }
 
-// Whether kind k has these dimensions and this grade. The struct of both, `Graded`, stands in `derive`, above this crate.
+// Whether kind k has these dimensions and this grade.
 pub fn carries(t: &[u32], d: Dimensions, g: u32, k: u16) -> bool
     ensures { result ≡ K.carries (kinds_of t.now) (at d g) k }
 {
@@ -33,7 +33,9 @@ pub fn carries(t: &[u32], d: Dimensions, g: u32, k: u16) -> bool
     carries_words(t, k, &w, g)
 }
 
-// Whether kind k fits: no point does. A difference from 65,535 on is none, the table's own word: words are lent, and hold no option.
+// Whether kind k fits: no point does. A difference from 65,535 on is none, the table's own word: words are lent, and hold no option. By `carries_words` and
+// `is_point` (proved) the count is asked three times: the same code in Rust then takes 1.00 million instructions in place of 0.98 to seek, for each of 240
+// kinds, the only one like it.
 pub(crate) fn fits_whole(t: &[u32], k: u16, w: &[u32], g: u32) -> bool
     ensures { result ≡ K.fits (kinds_of t.now) (at (dims_from w.now 0) g) k }
 {
@@ -43,11 +45,12 @@ pub(crate) fn fits_whole(t: &[u32], k: u16, w: &[u32], g: u32) -> bool
     if !same_exponents(t, k, w) {
         return false;
     }
-    let p = KINDS + KIND * k as usize;
+    let p = KINDS + KIND * usize::from(k);
     (word(t, p + FLAG) == 1) & (word(t, p + GRADE) == g) & (65535 <= word(t, p + DIFFERENCE))
 }
 
 // Whether kind k fits, wherever `pivot` points: the word there is compared first. A kind that differs in it takes some 14 instructions, another some 60.
+#[tactic(auto, using(crate::proofs::Worded::word_differs))]
 pub(crate) fn fits(t: &[u32], k: u16, w: &[u32], g: u32, pivot: usize) -> bool
     ensures { result ≡ K.fits (kinds_of t.now) (at (dims_from w.now 0) g) k }
 {

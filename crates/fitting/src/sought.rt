@@ -1,4 +1,6 @@
-// The only kind that fits dimensions at a grade, sought until a second does; and from there on how many do.
+// The only kind that fits dimensions at a grade, sought until a second does; and from there on how many do. Kinds are of type usize here, since places in
+// the table's words are made of them. There are at most 240, so an index goes back to 16 bits by `as`; a type for such an index would be made and read at
+// each of the three searches alone.
 ghost use Rattle.std.specs.Prelude.{◌≡◌, ◌&&◌, eqb, ◌+◌, ◌-◌, ◌*◌, ◌<◌, ◌≤◌, length};
 ghost use Rattle.laws.specs.Ranges.{first_from};
 ghost use Rattle.rules.specs.Kinds as K;
@@ -9,8 +11,8 @@ use crate::compared::pivot;
 use crate::kind::fits_whole;
 use table::{GRADE, KIND, KINDS, kind_count};
 
-// The only kind that fits, the second of several, at which the search ended, or none: three cases, more than Option or Result has. A search that counted
-// all that fit took 118,000 instructions more in the formula of products over the largest catalog.
+// The only kind that fits, the second of several, at which the search ended, or none: three cases, where an Option
+// has two.
 #[derive(Clone, Copy)]
 pub enum Fit {
     Only(u16),
@@ -18,7 +20,8 @@ pub enum Fit {
     Nothing,
 }
 
-// Whether the numerators of kind k at a and of the two bases behind it are x, y and z. Its words are all there, so that no place is tested.
+// Whether the numerators of kind k at a and of the two bases behind it are x, y and z. Its words are all there, so that no place is tested. x, y and z are
+// read once for all kinds: an array of them would be indexed by 0, 1 and 2 here, and be no plainer.
 fn are_same(t: &[u32], k: usize, a: usize, x: u32, y: u32, z: u32) -> bool
     requires k_bound { k < 240 }
     requires a_bound { a < 20 }
@@ -51,7 +54,8 @@ fn lead(w: &[u32]) -> usize
 }
 
 // The first kind from `from` on, of the first n, that fits. The words of all n are there, and most kinds differ in one of three numerators, which are
-// those of w at a and of the two bases behind it: some 8 instructions for such a kind, 70 for another of the same grade.
+// those of w at a and of the two bases behind it: some 8 instructions for such a kind, 70 for another of the same grade. With `next_read` alone a
+// compilation of the largest catalog takes 1.96 million in place of 1.48. `from` and n go one by one: the second search begins past what the first found.
 #[tactic(auto, using(table::proofs::Spans::searches, crate::proofs::Searched::apart))]
 fn next_within(t: &[u32], w: &[u32], g: u32, from: usize, n: usize, a: usize) -> Option<usize>
     requires n_in_bounds { kind_place n ≤ length t.now }
@@ -74,8 +78,7 @@ fn next_within(t: &[u32], w: &[u32], g: u32, from: usize, n: usize, a: usize) ->
     None
 }
 
-// The same where some of their words may be missing: words are lent, of any length, and this form has a test at each. That n is at most 240 is what keeps a kind's index within 16 bits; a type for it would be made and
-// read at each of the three searches alone.
+// The same where some of their words may be missing: words are lent, of any length, and this form has a test at each.
 #[tactic(auto, using(table::proofs::Spans::searches))]
 fn next_read(t: &[u32], w: &[u32], g: u32, from: usize, n: usize) -> Option<usize>
     requires { n ≤ 240 }
@@ -105,7 +108,7 @@ fn next_fit(t: &[u32], w: &[u32], g: u32, from: usize, n: usize) -> Option<usize
 pub fn only_fit(t: &[u32], w: &[u32], g: u32) -> Fit
     ensures { result ≡ fit_of (K.candidates (kinds_of t.now) (at (dims_from w.now 0) g)) }
 {
-    let n = kind_count(t) as usize;
+    let n = usize::from(kind_count(t));
     let Some(i) = next_fit(t, w, g, 0, n) else {
         return Fit::Nothing;
     };
@@ -121,9 +124,9 @@ pub fn only_fit(t: &[u32], w: &[u32], g: u32) -> Fit
 pub fn twins_from(t: &[u32], w: &[u32], g: u32, k: u16) -> u16
     ensures { result ≡ twins_from (kinds_of t.now) (at (dims_from w.now 0) g) k }
 {
-    let n = kind_count(t) as usize;
+    let n = usize::from(kind_count(t));
     let mut count: u16 = 2;
-    let mut from = k as usize + 1;
+    let mut from = usize::from(k) + 1;
     while let Some(j) = next_fit(t, w, g, from, n) {
         count += 1;
         from = j + 1;

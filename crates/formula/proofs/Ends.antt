@@ -1,12 +1,14 @@
 -- What a step tells once it is looked at, how the run ends, and what a formula's shape makes of it. Assumes nothing.
 use Prim.Native.Nat.{ℕ, zero, suc, ◌-◌, ◌/◌, ◌<◌, ◌≤◌}
 use mathlib.Core.Path.{◌≡◌, refl, sym, ap}
+use mathlib.Core.Bool.{true, false, true≢false}
 use mathlib.Core.List.{List, [], ◌∷◌}
 use lib.ListN.{length, get_or}
 use Rattle.std.specs.declared.option.Option.{Option}
 use Rattle.std.specs.declared.option.Option.TheVariants.{None, Some}
 use Rattle.std.specs.declared.result.Result.{Result}
 use Rattle.std.specs.declared.result.Result.TheVariants.{Ok, Err}
+use Rattle.std.specs.Result.{MatchResult, is_ok}
 use Rattle.rules.specs.Kinds.{Kinds, Rows}
 use Rattle.rules.specs.Refusal as why
 use Rattle.rules.specs.Formula as rule
@@ -36,6 +38,16 @@ on_back : (S : Steps) (p : ℕ) {s : List rule.Term} → Ok s ≡ shown_step p S
 on_back (rule.on s') p e = cc
 on_back (rule.stop x) p e = cc
 on_back rule.bad p e = cc
+
+-- ---- what `map_err` tells under `?`, of m by r: where m is Ok so is r, and where m is Err r has an error, of which the closure tells Q
+module _ {A E F : Type 0} where
+  pub kept_ok : (Q : E → Type 0) (r : Result A E) {m : Result A F} {x : A} → m ≡ Ok x → MatchResult r (λ t. m ≡ Ok t) Q → is_ok m ≡ is_ok r → r ≡ Ok x
+  kept_ok Q (Ok t) {m} {x} p h v = let z : x ≡ t = cc in ap Ok (sym z)
+  kept_ok Q (Err e) p h v = let z : true ≡ false = rw p at v in absurd (true≢false z)
+
+  pub told_err : {Q : E → Type 0} {C : Type 0} (r : Result A E) {m : Result A F} {y : F} → m ≡ Err y → MatchResult r (λ t. m ≡ Ok t) Q → ((e : E) → r ≡ Err e → Q e → C) → C
+  told_err (Ok t) p h f = let z : true ≡ false = cc in absurd (true≢false z)
+  told_err (Err e) p h f = f e refl h
 
 -- over the n terms that the array a holds, the code's step of token k, which is t, came to r
 module _ (K : Kinds) (R : Rows) (s : List ℕ) (k n : ℕ) (a : List Term) {i j : ℕ} {t : Token} {r : Result Put Error} (e : r ≡ next_by K R t n k (get_or a i Number) (get_or a j Number)) (f : i ≡ n - 2) (g : j ≡ n - 1) (q : t ≡ coded (token_at s k)) (l : n ≤ 32) where

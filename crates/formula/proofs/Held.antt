@@ -2,7 +2,7 @@
 use Prim.Native.Nat.{ℕ, zero, suc, ◌+◌, ◌-◌, ◌<◌, ◌≤◌}
 use mathlib.Core.Path.{◌≡◌, refl, ap}
 use mathlib.Core.Bool.{Bool, true, false, cond}
-use mathlib.Core.List.{List, ◌∷◌}
+use mathlib.Core.List.{List, [], ◌∷◌}
 use native.Mathlib.Omega.{arith}
 use native.Mathlib.Numerals.{add-one}
 use borrow.Author.Tests.{ltb-true, ltb-false}
@@ -15,7 +15,7 @@ use Rattle.laws.specs.Out.{given, refused}
 use Rattle.dimension.specs.Fraction as F
 use Rattle.rules.specs.Kinds.{Kinds, Rows}
 use Rattle.rules.specs.Refusal as why
-use Rattle.rules.specs.Arithmetic.{Add, Sub, summed, multiplied}
+use Rattle.rules.specs.Arithmetic.{Op}
 use Rattle.rules.specs.Formula as rule
 use Rattle.rules.specs.Formula.{number, kind, unary, binary, unreadable, exact, inexact, absolute, combined, compared}
 use Rattle.error.specs.declared.cause.Error.{Error}
@@ -24,6 +24,7 @@ use Rattle.tokens.specs.Shown.{coded}
 use Rattle.tokens.specs.declared.token.Token.{Token}
 use Rattle.tokens.specs.declared.token.Token.TheVariants as token
 use Rattle.tokens.specs.declared.token.Unary.TheVariants.{Exact}
+use Rattle.registry.proofs.Coded.{op_back}
 use Rattle.formula.specs.Shown.{made, term_of, unary_of, binary_of, stack_of, landed_of, pushed_of, one_of, two_of, next_by, Stepped, step_by}
 use Rattle.formula.specs.declared.terms.Term.{Term}
 use Rattle.formula.specs.declared.terms.Term.TheVariants.{Number}
@@ -127,6 +128,11 @@ steps K R a p n (token.Binary b) l f g e = takes_two a p (rule.binary_term K R (
 steps K R a p n token.Unreadable l f g e = strays a p e
 
 -- ---- the code's token and the rules'
+with_two_law : {f g : rule.Term → rule.Term → why.Answer rule.Term} → ((x y : rule.Term) → f x y ≡ g x y) → (s : List rule.Term) → rule.with_two f s ≡ rule.with_two g s
+with_two_law h [] = refl
+with_two_law h (b ∷ []) = refl
+with_two_law h (b ∷ a ∷ s) = ap (rule.onto s) (h a b)
+
 pub step_coded : (K : Kinds) (R : Rows) (t : rule.Token) (s : List rule.Term) → step_by K R (coded t) s ≡ rule.step (rule.terms K R) t s
 unfolding step_by rule.terms
 step_coded K R number s = refl
@@ -138,8 +144,6 @@ step_coded K R (unary (exact e)) s = go (F.within e)
     go false = refl
 step_coded K R (unary inexact) s = refl
 step_coded K R (unary absolute) s = refl
-step_coded K R (binary (combined (summed Add))) s = refl
-step_coded K R (binary (combined (summed Sub))) s = refl
-step_coded K R (binary (combined (multiplied op))) s = refl
+step_coded K R (binary (combined op)) s = with_two_law (λ x y. ap (λ (o : Op). rule.binary_term K R (combined o) x y) (op_back op)) s
 step_coded K R (binary compared) s = refl
 step_coded K R unreadable s = refl

@@ -1,5 +1,6 @@
 // One token over the stack. Of the array's 32 terms the first `depth` are held, the last of them on top. The array with its depth beside is the one
-// that the scope document names: fixed memory, no heap.
+// that the scope document names: fixed memory, no heap. Table and rows go one by one, as they are lent: a struct would be made at each public call and
+// opened at each read.
 ghost use Rattle.std.specs.Prelude.{◌≡◌, length};
 ghost use Rattle.rules.specs.Formula as rule;
 ghost use Rattle.rules.specs.Table.{kinds_of, rows_of};
@@ -30,7 +31,8 @@ fn landed(at: usize, m: Result<Term, Error>) -> Result<Put, Error>
     Ok(Put { at, term: m? })
 }
 
-// A number or a kind: at most 32 terms are held together; 50 for one more.
+// A number or a kind: at most 32 terms are held together; 50 for one more. This and the next two differ in the test, the place and the term: of one
+// function for the three the term would be a closure, so that it isn't made before the test.
 #[tactic(auto, unfolding(crate::specs::Shown::pushed_of))]
 fn pushed(depth: usize, place: usize, m: Result<Term, Error>) -> Result<Put, Error>
     ensures { result ≡ pushed_of depth place m }
@@ -71,7 +73,8 @@ fn binary_step(
     Err(Error::Malformed(place))
 }
 
-// One token, which stands at this place; `top` is the top term, `left` the one below, where so many are held.
+// One token, which stands at this place; `top` is the top term, `left` the one below, where so many are held. The two go by themselves, since an array
+// that is handed over and back is copied, some 250 instructions; depth and place too, since each step reads them apart, so a struct is no plainer.
 #[tactic(auto, unfolding(crate::specs::Shown::made, crate::specs::Shown::next_by))]
 pub(crate) fn step(
     t: &[u32],

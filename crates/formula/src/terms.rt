@@ -9,19 +9,10 @@ ghost use Rattle.registry.specs.Shown.{looked};
 ghost use Rattle.formula.specs.Shown.{made, term_of, unary_of, binary_of};
 
 use dimension::{ProductOp, Rational};
-use error::{Error, Op, op_code};
+use error::{ABSOLUTE, COMPARE, EXACT, Error, INEXACT, Op, op_code};
 use registry::{agree, combined, inexact_power, power, scaled};
 use table::kind_count;
 use tokens::{Binary, Unary};
-
-// The codes of the tokens that are no operation's; the operations have theirs by name. A code goes out in a refusal, as a number.
-const EXACT: u8 = 8;
-
-const INEXACT: u8 = 9;
-
-const ABSOLUTE: u8 = 10;
-
-const COMPARE: u8 = 11;
 
 // A plain number, or a quantity of a kind. No Option: a number is a term too and no missing kind, and the two names say what a term is.
 #[derive(Clone, Copy)]
@@ -30,7 +21,8 @@ pub enum Term {
     Kind(u16),
 }
 
-// 41 for a kind past the count.
+// 41 for a kind past the count. The `indexed` of `lookup` tests the same: one function for both would be public, with a contract and an edit that must be
+// refused of its own, for one test.
 #[tactic(auto, unfolding(rules::specs::Formula::kind_term, rules::specs::Arithmetic::indexed, crate::specs::Shown::made))]
 pub(crate) fn kind_term(t: &[u32], k: u16) -> Result<Term, Error>
     ensures { result ≡ made (rule.kind_term (kinds_of t.now) k) }

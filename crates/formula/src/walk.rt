@@ -34,15 +34,10 @@ fn walked(t: &[u32], rows: &[u32], bytes: &[u8]) -> Result<Term, Fault>
     for place in 0..n {
         let top = stack[depth.saturating_sub(1)];
         let left = stack[depth.saturating_sub(2)];
-        match step(t, rows, left, top, depth, place, token_at(bytes, place)) {
-            Ok(put) => {
-                stack[put.at] = put.term;
-                depth = put.at + 1;
-            }
-            Err(e) => {
-                return Err(e.at(place));
-            }
-        }
+        let token = token_at(bytes, place);
+        let put = step(t, rows, left, top, depth, place, token).map_err(|e| e.at(place))?;
+        stack[put.at] = put.term;
+        depth = put.at + 1;
     }
     last(stack, depth, n)
 }

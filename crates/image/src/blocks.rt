@@ -8,7 +8,9 @@ ghost use Rattle.image.specs.Shown.{weighed};
 use numbers::{u16_at, u32_at};
 
 // What byte i of a block adds to the block's sum. The block lies within the image, so no place needs a test. That is said of the number of the block
-// and not by a type: the sum is asked block by block, and a part cut for each would be tested again.
+// and not by a type: the sum is asked block by block, and a part cut for each would be an Option whose
+// other case never comes. i goes by `as`: it is below 508, so a `try_from` would
+// have an error that no i gives.
 #[tactic(auto, unfolding(crate::specs::Shown::weighed))]
 fn weight(image: &[u8], block: usize, i: usize) -> u32
     requires block_bound { (block < 1000) × (i < 508) }
@@ -16,7 +18,7 @@ fn weight(image: &[u8], block: usize, i: usize) -> u32
     ensures value { result ≡ weighed image.now block i }
     ensures upper_bound { result ≤ 129540 }
 {
-    (i as u32 + 1) * (image[block * 512 + i] as u32)
+    (i as u32 + 1) * u32::from(image[block * 512 + i])
 }
 
 #[tactic(auto, using(laws::proofs::Sum::sums), unfolding(rules::specs::Bytes::block_sum, crate::specs::Shown::weighed))]
@@ -38,7 +40,7 @@ fn sum_wrong(image: &[u8], block: usize) -> bool
     requires block_in_bounds { 512 * block + 508 ≤ length image.now }
     ensures { result ≡ sum_wrong image.now block }
 {
-    (u16_at(image, block * 512) as usize != block)
+    (usize::from(u16_at(image, block * 512)) != block)
         | (u32_at(image, block * 512 + 508) != block_sum(image, block))
 }
 

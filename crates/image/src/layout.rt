@@ -1,6 +1,7 @@
-// Refusal 4: the lowest byte against the layout. Each function looks through one part of the image and stops at its first wrong byte.
+// Refusal 4: the lowest byte against the layout. Each function looks through one part of the image and stops at its first wrong byte. The bounds on places
+// keep sums from overflowing: a type for a place would say no more and would have to be made at each sum.
 ghost use Rattle.std.specs.Prelude.{◌≡◌, ℕ, ◌+◌, ◌*◌, ◌-◌, ◌<◌, ◌≤◌, min, Bool, List, length};
-ghost use Rattle.rules.specs.Layout.{header_wrong, id_wrong, ids_wrong, exponent_wrong, kind_wrong, row_wrong, block_wrong, byte_wrong};
+ghost use Rattle.rules.specs.Layout.{header_wrong, id_wrong, ids_wrong, exponent_wrong, kind_wrong, row_wrong, block_wrong, byte_wrong, kind_count, row_count};
 ghost use Rattle.laws.specs.Options.{is_some};
 ghost use Rattle.laws.specs.Ranges.{first_from};
 ghost use Rattle.image.specs.Shown.{denominator_wrong, denominator_at, marks_wrong, counts_wrong, head_at, records_at, Follows};
@@ -31,7 +32,7 @@ fn wrong_within(s: &[u8], p: usize, i: usize) -> bool
 }
 
 // Whether a byte of an id that lies within the image is wrong. No byte ends the loop, so that many are looked at at once, as in
-// `any_filled`, where it is counted what that saves.
+// `any_filled`, where it is counted what that saves. i is the byte's number in the id, by which `wrong_within` asks for the byte before it.
 #[tactic(auto, using(laws::proofs::FirstFrom::anys))]
 fn any_wrong(s: &[u8], p: usize) -> bool
     requires { (0 < p) × (p + 32 ≤ length s.now) }
@@ -61,7 +62,7 @@ fn id_fault(s: &[u8], p: usize) -> Option<usize>
     None
 }
 
-// The bounds on places, here and below, keep sums from overflowing. A type for a place would say no more and would have to be made at each sum.
+// The three ids with which a record at p begins.
 #[tactic(auto, using(crate::proofs::Finds::finds, crate::proofs::Split::ids_split))]
 fn ids_fault(s: &[u8], p: usize) -> Option<usize>
     requires { p < 400000 }
@@ -96,7 +97,7 @@ fn denominators_fault(s: &[u8], p: usize) -> Option<usize>
     None
 }
 
-// By the flag: unresolved, given, or unchecked.
+// By the flag, the image's own byte, which is compared here alone: 0 unresolved, 1 given, others unchecked.
 #[tactic(auto, using(crate::proofs::Exponents::exponents_unresolved, crate::proofs::Exponents::exponents_unchecked, crate::proofs::Exponents::exponents_given))]
 fn exponents_fault(s: &[u8], p: usize) -> Option<usize>
     requires { p < 400000 }
@@ -146,13 +147,21 @@ pub(crate) fn row_fault(s: &[u8], p: usize) -> Option<usize>
     ids_fault(s, p).or_else(|| marks_fault(s, p + 96, 3, 1))
 }
 
+// How many kinds and how many rows the header says. Read here and not by `catalog`, which stands beside this crate and is for images that passed it.
+fn counts(s: &[u8]) -> (usize, usize)
+    ensures kinds { result.0 ≡ kind_count s.now }
+    ensures rows { result.1 ≡ row_count s.now }
+    ensures upper_bound { (result.0 ≤ 65535) × (result.1 ≤ 65535) }
+{
+    (usize::from(u16_at(s, 8)), usize::from(u16_at(s, 10)))
+}
+
 // The blocks that the counts give, and what is charged to byte 8.
 #[tactic(auto, unfolding(crate::specs::Shown::counts_wrong))]
 fn counts_wrong(s: &[u8]) -> bool
     ensures { result ≡ counts_wrong s.now }
 {
-    let kinds = u16_at(s, 8) as usize;
-    let rows = u16_at(s, 10) as usize;
+    let (kinds, rows) = counts(s);
     (240 < kinds) | (s.len() != 512 * (1 + (kinds + 2) / 3 + (rows + 4) / 5))
 }
 
@@ -166,7 +175,8 @@ fn header_counts_fault(s: &[u8]) -> Option<usize>
     if counts_wrong(s) {
         return Some(8);
     }
-    if 200 < u16_at(s, 10) {
+    let (_, rows) = counts(s);
+    if 200 < rows {
         return Some(10);
     }
     None
@@ -183,7 +193,7 @@ fn header_fault(s: &[u8]) -> Option<usize>
 }
 
 // The records that a block holds, of n in all, m to a block, where `from` are in the blocks before. The full block is a case of its own, so that
-// the compiler knows its length: with `m.min(n.saturating_sub(from))` the check of an image takes a fifth more.
+// the compiler knows how many records are looked through: with `m.min(n.saturating_sub(from))` the check of an image takes a fifth more instructions.
 fn held(n: usize, from: usize, m: usize) -> usize
     ensures value { result ≡ min m (n - from) }
     ensures upper_bound { result ≤ m }
@@ -207,13 +217,14 @@ fn head_fault(s: &[u8], p: usize, kind: u8, records: usize) -> Option<usize>
     if byte_at(s, p + 2) != kind {
         return Some(p + 2);
     }
-    if byte_at(s, p + 3) as usize != records {
+    if usize::from(byte_at(s, p + 3)) != records {
         return Some(p + 3);
     }
     None
 }
 
 // The first fault of so many records of so many bytes from p on, by whatever rule a record's check goes.
+#[tactic(auto, using(crate::proofs::Records::records_none, crate::proofs::Records::records_next, crate::proofs::Records::records_here))]
 fn records_fault<F: Fn(usize) -> Option<usize>>(
     p: usize,
     bytes: usize,
@@ -233,7 +244,8 @@ fn records_fault<F: Fn(usize) -> Option<usize>>(
     None
 }
 
-// Block b of records, n in all, m to a block, that begins with record `from`.
+// Block b of records, n in all, m to a block, that begins with record `from`. What the two kinds of blocks differ in are parameters: a struct of
+// constants for each would be named once and opened here, so it is no plainer.
 fn records_block_fault<F: Fn(usize) -> Option<usize>>(
     s: &[u8],
     b: usize,
@@ -268,8 +280,7 @@ fn block_fault(s: &[u8], b: usize) -> Option<usize>
     if b == 0 {
         return header_fault(s);
     }
-    let kinds = u16_at(s, 8) as usize;
-    let rows = u16_at(s, 10) as usize;
+    let (kinds, rows) = counts(s);
     let k = (kinds + 2) / 3;
     if b <= k {
         return records_block_fault(s, b, 1, 148, 3, kinds, (b - 1) * 3, |q| kind_fault(s, q));

@@ -1,21 +1,13 @@
 // The program kindcheck: an image and then a formula on standard input, one line on standard output.
 #![tactic(auto)]
 
-use printed::Line;
+use printed::{Line, ROOM};
 use reading::read_full;
+use slices::front;
 use std::io::{self, Write};
 
-// The largest image, and a byte more than the longest formula: what comes after never changes the line (crates/printed, proofs/Cut).
-const ROOM: usize = 63489;
-
-// No line is longer than its 64 bytes.
 fn tell(rt: &HostRuntime, line: Line) -> io::Result<()> {
-    let bytes = line.bytes;
-    let n = line.length;
-    if n <= 64 {
-        return io::writer(rt).write_all(&bytes[..n]);
-    }
-    Ok(())
+    io::writer(rt).write_all(front(&line.bytes, line.length))
 }
 
 fn main(rt: HostRuntime) -> io::Result<()> {

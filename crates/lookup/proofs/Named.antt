@@ -1,25 +1,58 @@
 -- What a refusal names. Assumes nothing.
 use Prim.Native.Nat.{ℕ, zero, suc}
 use mathlib.Core.Path.{◌≡◌, refl}
-use Rattle.std.specs.declared.option.Option.TheVariants.{None}
+use mathlib.Core.Bool.{true, false, true≢false}
+use Rattle.std.specs.declared.option.Option.{Option}
+use Rattle.std.specs.declared.option.Option.TheVariants.{None, Some}
+use Rattle.std.specs.Option.{option_map}
 use Rattle.dimension.specs.declared.rational.Rational.{Rational}
 use Rattle.dimension.specs.declared.grade.ProductOp.{ProductOp}
 use Rattle.dimension.specs.declared.grade.ProductOp.TheVariants.{Wedge}
+use Rattle.rules.specs.Arithmetic as rule
+use Rattle.error.specs.Shown.{op_as}
 use Rattle.error.specs.declared.cause.Error.{Error}
 use Rattle.error.specs.declared.cause.Error.TheVariants as cause
+use Rattle.error.specs.declared.op.Op.{Op}
+use Rattle.error.specs.declared.op.Op.TheVariants.{Product}
 use Rattle.lookup.specs.Shown.{op_by, named}
 
--- past 4, 5 and 6
-pub op_else : (n : ℕ) → (n ≡ 4 → ⊥) → (n ≡ 5 → ⊥) → (n ≡ 6 → ⊥) → Wedge ≡ op_by n
-unfolding op_by
-op_else zero a b c = refl
-op_else (suc zero) a b c = refl
-op_else (suc (suc zero)) a b c = refl
-op_else (suc (suc (suc zero))) a b c = refl
-op_else (suc (suc (suc (suc zero)))) a b c = absurd (a refl)
-op_else (suc (suc (suc (suc (suc zero))))) a b c = absurd (b refl)
-op_else (suc (suc (suc (suc (suc (suc zero)))))) a b c = absurd (c refl)
-op_else (suc (suc (suc (suc (suc (suc (suc n))))))) a b c = refl
+-- ---- the product of a code, by the operation that the rules read of it
+abbrev product_by : Option rule.Op → ProductOp
+product_by (Some (rule.multiplied op)) = op
+product_by (Some (rule.summed s)) = Wedge
+product_by None = Wedge
+
+by_code : (code : ℕ) → op_by code ≡ product_by (rule.op_by code)
+unfolding op_by rule.op_by
+by_code zero = refl
+by_code (suc zero) = refl
+by_code (suc (suc zero)) = refl
+by_code (suc (suc (suc zero))) = refl
+by_code (suc (suc (suc (suc zero)))) = refl
+by_code (suc (suc (suc (suc (suc zero))))) = refl
+by_code (suc (suc (suc (suc (suc (suc zero)))))) = refl
+by_code (suc (suc (suc (suc (suc (suc (suc zero))))))) = refl
+by_code (suc (suc (suc (suc (suc (suc (suc (suc n)))))))) = refl
+
+module _ (code : ℕ) {o : Option Op} (e : o ≡ option_map op_as (rule.op_by code)) where
+  pub is_product : {op : ProductOp} → o ≡ Some (Product op) → op ≡ op_by code
+  is_product {op} p = rw (by_code code) (go (rule.op_by code) (rw p at e))
+    where
+      go : (q : Option rule.Op) → Some (Product op) ≡ option_map op_as q → op ≡ product_by q
+      go None h = let z : true ≡ false = cc in absurd (true≢false z)
+      go (Some (rule.multiplied x)) h = cc
+      go (Some (rule.summed rule.Add)) h = let z : true ≡ false = cc in absurd (true≢false z)
+      go (Some (rule.summed rule.Sub)) h = let z : true ≡ false = cc in absurd (true≢false z)
+
+  pub is_none : ((op : ProductOp) → o ≡ Some (Product op) → ⊥) → Wedge ≡ op_by code
+  is_none p = rw (by_code code) (go (rule.op_by code) e)
+    where
+      go : (q : Option rule.Op) → o ≡ option_map op_as q → Wedge ≡ product_by q
+      go None h = refl
+      go (Some (rule.multiplied x)) h = absurd (p x h)
+      go (Some (rule.summed s)) h = refl
+
+pub ruleset products = (is_product, is_none)
 
 -- neither of the two
 pub named_else : (e : Error) → ((l : ℕ) (op : ProductOp) (r n : ℕ) → e ≡ cause.UnresolvedTwin l op r n → ⊥) → ((k : ℕ) (x : Rational) (n : ℕ) → e ≡ cause.UnresolvedPowerTwin k x n → ⊥) → None ≡ named e

@@ -24,6 +24,7 @@ use Rattle.error.specs.declared.cause.Error.{Error}
 use Rattle.error.specs.declared.cause.Error.TheVariants as cause
 use Rattle.error.specs.declared.op.Op.{Op}
 use Rattle.registry.specs.Shown.{looked}
+use Rattle.registry.proofs.Coded.{op_read, op_unread}
 use Rattle.lookup.specs.Shown.{tested, lent, lent_combine, lent_power, indexed_combine, indexed_power, power_by, exponent_of}
 use Rattle.lookup.specs.declared.lone.Exponent.{Exponent}
 use Rattle.lookup.specs.declared.lone.Exponent.TheVariants as exponent
@@ -57,21 +58,6 @@ module _ (m : why.Answer (Unit {0})) (n : why.Answer ℕ) where
       go : (m : why.Answer (Unit {0})) → Ok u ≡ tested m → v ≡ looked (m >> n)
       go (given w) q = h
       go (refused x) q = let z : true ≡ false = cc in absurd (true≢false z)
-
--- ---- the operation of a code: q is the rules'
-op_back : (o : rule.Op) → op_of (op_as o) ≡ o
-op_back (rule.summed rule.Add) = refl
-op_back (rule.summed rule.Sub) = refl
-op_back (rule.multiplied op) = refl
-
-module _ (e : Error) where
-  op_read : (q : Option rule.Op) {op : Op} → Ok op ≡ ok_or (option_map op_as q) e → q ≡ Some (op_of op)
-  op_read (Some a) {op} p = let z : op ≡ op_as a = cc in rw (z, op_back a)
-  op_read None p = let z : true ≡ false = cc in absurd (true≢false z)
-
-  op_unread : (q : Option rule.Op) {x : Error} → Err x ≡ ok_or (option_map op_as q) e → (q ≡ None) × (x ≡ e)
-  op_unread (Some a) p = let z : true ≡ false = cc in absurd (true≢false z)
-  op_unread None p = (refl, cc)
 
 -- ---- two kinds
 module _ (t rows twins : List ℕ) (code l r : ℕ) where

@@ -11,7 +11,7 @@ ghost use Rattle.lookup.specs.Shown.{exponent_of, placed, tested, at_start, twin
 use crate::lent::check_lent;
 use crate::twins::list_twins;
 use dimension::Rational;
-use error::{Error, Fault, Op};
+use error::{EXACT, Error, Fault, INEXACT, Op};
 use table::kind_count;
 
 // An exponent as it is handed over: a numerator and a denominator, not yet reduced, or inexact, which is an exponent too and no missing one.
@@ -21,7 +21,7 @@ pub enum Exponent {
     Inexact,
 }
 
-// 41.
+// 41, which `formula` tests at its tokens, where the answer is a term.
 #[tactic(auto, using(crate::proofs::Ordered::indexing))]
 fn indexed(t: &[u32], k: u16) -> Result<(), Error>
     ensures { result ≡ tested (rule.indexed (kinds_of t.now) k) }
@@ -78,15 +78,14 @@ pub fn combine(
     answered(table, combined(table, rows, twins, code, l, r), twins)
 }
 
-// The numerator and denominator are no `Rational` before they are reduced, which may be refused. 8 is the code of a token that is an exact power, 9 of
-// one that is inexact: what 43 returns.
+// The numerator and denominator are no `Rational` before they are reduced, which may be refused. The code is what 43 hands out.
 #[tactic(auto, using(crate::proofs::Ordered::raising))]
 fn raised_exactly(t: &[u32], k: u16, num: i32, den: u32) -> Result<u16, Error>
     ensures { result ≡ looked (power_by (kinds_of t.now) k (lone.exact num den)) }
 {
     let e = Rational::new(num, den).ok_or(Error::Malformed(0))?;
     indexed(t, k)?;
-    registry::power(t, 8, k, e)
+    registry::power(t, EXACT, k, e)
 }
 
 #[tactic(auto, using(crate::proofs::Ordered::raising))]
@@ -94,7 +93,7 @@ fn raised_inexactly(t: &[u32], k: u16) -> Result<u16, Error>
     ensures { result ≡ looked (power_by (kinds_of t.now) k lone.inexact) }
 {
     indexed(t, k)?;
-    registry::inexact_power(t, 9, k)
+    registry::inexact_power(t, INEXACT, k)
 }
 
 // 5, 40, 50, 41, then the power.

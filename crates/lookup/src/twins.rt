@@ -9,7 +9,7 @@ ghost use Rattle.lookup.specs.Shown.{op_by, named, name_of, fits_derived, twins_
 
 use derive::derive;
 use dimension::{Dimensions, ProductOp, Rational};
-use error::{Error, Fault};
+use error::{Error, Fault, Op};
 use fitting::list_candidates;
 use table::dims_of;
 
@@ -22,14 +22,12 @@ pub(crate) enum Origin {
 
 // The product whose token has this code, 4 to 7, which the caller lends as a number. Any other counts as Wedge, with no Option: by it a row is looked
 // for, sums read none, and the lookup refuses a code that is no operation's. The `op_of` of `catalog` is no twin: it reads a row's word, 0 to 3.
-#[tactic(auto, using(crate::proofs::Named::op_else), unfolding(crate::specs::Shown::op_by))]
+#[tactic(auto, using(crate::proofs::Named::products))]
 pub fn op_of(code: u8) -> ProductOp
     ensures { result ≡ op_by code }
 {
-    match code {
-        4 => ProductOp::Mul,
-        5 => ProductOp::Div,
-        6 => ProductOp::Dot,
+    match Op::from_code(code) {
+        Some(Op::Product(op)) => op,
         _ => ProductOp::Wedge,
     }
 }

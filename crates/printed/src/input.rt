@@ -10,8 +10,9 @@ use slices::part;
 fn image_length(input: &[u8]) -> usize
     ensures { result ≡ rule.image_length input.now }
 {
-    let kinds = kind_count(input) as usize;
-    let rows = row_count(input) as usize;
+    let kinds = usize::from(kind_count(input));
+    let rows = usize::from(row_count(input));
+    // As the definition says it, which `image` asks of its own counts.
     let blocks = 1 + (kinds + 2) / 3 + (rows + 4) / 5;
     512 * blocks.min(121)
 }

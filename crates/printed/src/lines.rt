@@ -20,13 +20,13 @@ fn kind_line(image: &[u8], k: u16) -> Line
 {
     Line::empty()
         .add(b"kind ")
-        .add_number(k as usize)
+        .add_number(usize::from(k))
         .put(b' ')
         .add(kind_part(image, k))
         .put(b'\n')
 }
 
-// The refusal's number and place.
+// The refusal's number and place. A `u32` is a `usize` by `as`: there is no `From`.
 fn refused_line(fault: Fault) -> Line
     ensures { result ≡ written (refused_line (said_of fault.error).number fault.place) }
 {

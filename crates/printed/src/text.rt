@@ -3,7 +3,8 @@ ghost use Rattle.std.specs.Prelude.{◌≡◌, []};
 ghost use Rattle.rules.specs.Report.{digits};
 ghost use Rattle.printed.specs.Shown.{written, with_byte, added};
 
-// The first `length` of 64 bytes; those after are 0.
+// The first `length` of 64 bytes; those after are 0. An array with its length beside it, since no memory is asked for. Over the kit's vector of fixed
+// room (`arrayvec`) it was written, proved and as fast, but by a rule of the project nothing new is to be trusted, as that crate's statements would be.
 #[derive(Clone, Copy)]
 pub struct Line {
     pub bytes: [u8; 64],
@@ -49,7 +50,7 @@ impl Line {
         self
     }
 
-    // The decimal digits of n, found from the last to the first: 20 are enough for any n.
+    // The decimal digits of n, found from the last to the first: 20 are enough for any n. By `as`: a `try_from` would have an error that no digit gives.
     pub(crate) fn add_number(self, n: usize) -> Line
         ensures { result ≡ added self (digits n) }
     {

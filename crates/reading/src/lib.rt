@@ -10,7 +10,8 @@ pub fn read_full<R: Read>(reader: &mut R, buffer: &mut [u8]) -> io::Result<usize
     ensures { IfOk result (λ n. n ≤ length buffer.new) }
 {
     let mut at = 0;
-    // Until the buffer is full or nothing is left: how many reads that takes isn't known before, and a `for` needs no measure of what a reader has left.
+    // Until the buffer is full or nothing is left: how many reads that takes isn't known before. A `while` would need a measure of what a reader has left,
+    // which there is none of; `read_to_end` asks for memory, and `read_exact` refuses a short input.
     for _ in 0..u64::MAX {
         if at == buffer.len() {
             break;

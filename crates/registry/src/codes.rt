@@ -25,8 +25,6 @@ pub fn combined(t: &[u32], rows: &[u32], op: Op, l: u16, r: u16) -> Result<u16, 
 pub fn combine(t: &[u32], rows: &[u32], code: u8, l: u16, r: u16) -> Result<u16, Error>
     ensures { result ≡ looked (combine_by (kinds_of t.now) (rows_of rows.now) code l r) }
 {
-    match Op::from_code(code) {
-        Some(op) => combined(t, rows, op, l, r),
-        None => Err(Error::Malformed(0)),
-    }
+    let op = Op::from_code(code).ok_or(Error::Malformed(0))?;
+    combined(t, rows, op, l, r)
 }

@@ -35,7 +35,8 @@ fn raised_to(t: &[u32], k: u16, e: Rational, d: Dimensions) -> Result<u16, Error
     }
 }
 
-// 28, or the kind: k has the dimensions d.
+// 28, or the kind: k has the dimensions d. A `match`: `ok_or` under `?` is no plainer, and copies the dimensions once more. It was tried, and a formula of
+// 128 tokens with powers took 154,247 instructions in place of 150,437.
 #[tactic(auto, using(crate::proofs::Raised::powers))]
 fn raised_from(t: &[u32], k: u16, e: Rational, d: Dimensions) -> Result<u16, Error>
     ensures { result ≡ looked (over_as (kinds_of t.now) k e d) }
@@ -62,7 +63,7 @@ fn raised(t: &[u32], k: u16, e: Rational) -> Result<u16, Error>
 }
 
 // 43 for a point; exponent one gives the kind. The code is the token's, lent as a number: an enum would ask more of a caller. 43 returns 65,535 for
-// the kind that isn't there.
+// the kind that isn't there, and no Option: the refusal holds what 01 returns, as the rules' has it, and `say` alone reads it.
 #[tactic(auto, using(crate::proofs::Raised::powers))]
 pub fn power(t: &[u32], code: u8, k: u16, e: Rational) -> Result<u16, Error>
     ensures { result ≡ looked (rule.power (kinds_of t.now) code k (Some e)) }
@@ -76,7 +77,7 @@ pub fn power(t: &[u32], code: u8, k: u16, e: Rational) -> Result<u16, Error>
     raised(t, k, e)
 }
 
-// 43: no kind has an inexact power. It returns 65,535 for the kind that isn't there.
+// 43: no kind has an inexact power. It returns 65,535 as `power` does.
 #[tactic(auto, using(crate::proofs::Raised::powers))]
 pub fn inexact_power(t: &[u32], code: u8, k: u16) -> Result<u16, Error>
     ensures { result ≡ looked (rule.power (kinds_of t.now) code k None) }

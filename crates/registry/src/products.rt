@@ -2,6 +2,7 @@
 // this very left, operation and right.
 // Left, operation and right go one by one, here and in the crates beside: the scope's own calls name them so, and a struct of the three would be made
 // and taken apart at each call. So do the words of a product and its grade, as the calls of `fitting` take them.
+// Table and rows go one by one, as they are lent: a struct would be made at each public call and opened at each read.
 ghost use Rattle.std.specs.Prelude.{◌≡◌};
 ghost use Rattle.laws.specs.Options.{found};
 ghost use Rattle.std.specs.declared.result.Result.TheVariants.{Ok, Err};
@@ -38,7 +39,8 @@ fn several(
     }
 }
 
-// Of the kinds that fit a product of this grade the only one, the row's, or why there is none.
+// Of the kinds that fit a product of this grade the only one, the row's, or why there is none. `powers` has a match of its own over the same three cases,
+// without rows and with other refusals: a function of two closures would be as long as both.
 #[tactic(auto, using(crate::proofs::Settled::settlements))]
 fn fitted(t: &[u32], rows: &[u32], l: u16, op: ProductOp, r: u16, g: u32) -> Result<u16, Error>
     ensures { result ≡ looked (fitted_as (kinds_of t.now) (rows_of rows.now) l op r (joined_as (kinds_of t.now) l op r g)) }

@@ -45,6 +45,7 @@ fn minus(l: u16, r: u16, dl: Option<u16>, dr: Option<u16>) -> Result<u16, Error>
     }
 }
 
+// Not one function with `subtracted`: it would be handed `plus` or `minus`, and each call would name it.
 #[tactic(auto, unfolding(rules::specs::Arithmetic::sum))]
 pub fn added(t: &[u32], l: u16, r: u16) -> Result<u16, Error>
     ensures { result ≡ looked (rule.sum (kinds_of t.now) rule.Add l r) }
@@ -60,7 +61,7 @@ pub fn subtracted(t: &[u32], l: u16, r: u16) -> Result<u16, Error>
 }
 
 // Times or over a number, or without its sign: what no point can be. The code is the token's, lent as a number: an enum would ask more of a caller.
-// 43 returns 65,535 for the kind that isn't there.
+// 43 returns 65,535 for the kind that isn't there: the refusal holds what 01 returns, as the rules' has it, and `say` alone reads it.
 #[tactic(auto, using(crate::proofs::Answered::answered))]
 pub fn scaled(t: &[u32], code: u8, k: u16) -> Result<u16, Error>
     ensures { result ≡ looked (rule.scaled (kinds_of t.now) code k) }

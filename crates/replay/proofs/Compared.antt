@@ -1,11 +1,12 @@
 -- A stored compilation compared with words: what is told of the kinds, the rows and the whole. Assumes nothing.
-use Prim.Native.Nat.{ℕ, ◌+◌}
+use Prim.Native.Nat.{ℕ, ◌+◌, ◌<◌}
 use mathlib.Core.Path.{◌≡◌, refl, ◌∙◌, ap}
-use mathlib.Core.Bool.{Bool}
+use mathlib.Core.Bool.{Bool, false}
 use mathlib.Core.List.{List}
 use native.Mathlib.Numerals.{add-one}
 use lib.ListN.{length, drop, length-replicate}
 use Rattle.laws.specs.Ranges.{all}
+use Rattle.laws.proofs.All.{all_here}
 use Rattle.rules.specs.Bytes.{le2}
 use Rattle.rules.specs.Image.{compile_image, table_after}
 use Rattle.rules.specs.Table.{kind_place}
@@ -28,9 +29,9 @@ pub first_kind : (s : List ℕ) → 8 ≡ kind_at s 0
 unfolding kind_at
 first_kind s = refl
 
-pub kinds_told : (s t : List ℕ) {n : ℕ} {r : Bool} → n ≡ le2 s 4 → r ≡ all (kind_here s t) n → r ≡ kinds_as s t
+pub kind_differs : (s t : List ℕ) (k : ℕ) {at n : ℕ} {x y : List ℕ} {b : Bool} → at ≡ kind_at s k → x ≡ drop at s → y ≡ drop (kind_place k) t → n ≡ le2 s 4 → k < n → b ≡ kind_as x y → b ≡ false → false ≡ kinds_as s t
 unfolding kinds_as
-kinds_told s t e f = rw (← e) f
+kind_differs s t k p q w e l h f = rw (← e) (all_here (kind_here s t) k _ l (kind_here_law s k p q t w h) f)
 
 pub rows_told : (s t : List ℕ) {n e m : ℕ} {x : List ℕ} {r : Bool} → n ≡ le2 s 4 → e ≡ kind_at s n → x ≡ drop e s → m ≡ le2 s 6 → r ≡ all (row_as x t) m → r ≡ rows_as s t
 unfolding rows_as

@@ -20,10 +20,11 @@ fn kind_size(s: &[u8]) -> usize
     ensures value { result ≡ C.kind_size s.now }
     ensures upper_bound { result ≤ 1540 }
 {
-    10 + 6 * byte_at(s, 3) as usize
+    10 + 6 * usize::from(byte_at(s, 3))
 }
 
 // Where the first n kinds end.
+#[tactic(auto, using(crate::proofs::Compared::next_kind, crate::proofs::Compared::first_kind))]
 fn kinds_end(s: &[u8], n: u16) -> usize
     ensures value { result ≡ C.kind_at s.now n }
     ensures upper_bound { result ≤ 8 + 1540 * n }
@@ -35,13 +36,14 @@ fn kinds_end(s: &[u8], n: u16) -> usize
     at
 }
 
+#[tactic(auto, using(crate::proofs::Compared::kind_differs, crate::proofs::Compared::kind_here_law, crate::proofs::Compared::next_kind, crate::proofs::Compared::first_kind, laws::proofs::All::alls), unfolding(crate::specs::Compiled::kinds_as))]
 fn are_kinds(s: &[u8], t: &[u32]) -> bool
     ensures { result ≡ C.kinds_as s.now t.now }
 {
     let mut at: usize = 8;
     for k in 0..u16_at(s, 4) {
         let rest = after(s, at);
-        if !is_kind(rest, after(t, KINDS + KIND * k as usize)) {
+        if !is_kind(rest, after(t, KINDS + KIND * usize::from(k))) {
             return false;
         }
         at += kind_size(rest);
@@ -53,16 +55,16 @@ fn are_kinds(s: &[u8], t: &[u32]) -> bool
 fn is_row(s: &[u8], t: &[u32], i: u16) -> bool
     ensures { result ≡ C.row_as s.now t.now i }
 {
-    let at = 10 * i as usize;
-    let place = ROWS + ROW * i as usize;
+    let at = 10 * usize::from(i);
+    let place = ROWS + ROW * usize::from(i);
     is_pair(
         after(t, place),
-        u16_at(s, at) as u32,
-        u16_at(s, at + 2) as u32,
+        u32::from(u16_at(s, at)),
+        u32::from(u16_at(s, at + 2)),
     ) & is_pair(
         after(t, place + 2),
-        u16_at(s, at + 4) as u32,
-        u16_at(s, at + 6) as u32,
+        u32::from(u16_at(s, at + 4)),
+        u32::from(u16_at(s, at + 6)),
     )
 }
 
@@ -78,7 +80,7 @@ fn are_counts(s: &[u8], t: &[u32]) -> bool
     ensures { result ≡ C.counts_as s.now t.now }
 {
     // 3 begins a compilation in the files (docs/VECTORS.md).
-    (u32_at(s, 0) == 3) & is_pair(t, u16_at(s, 4) as u32, u16_at(s, 6) as u32)
+    (u32_at(s, 0) == 3) & is_pair(t, u32::from(u16_at(s, 4)), u32::from(u16_at(s, 6)))
 }
 
 #[tactic(auto, unfolding(crate::specs::Compiled::compiled_as))]
@@ -92,7 +94,7 @@ fn is_compiled(s: &[u8], t: &[u32]) -> bool
 fn untouched(t: &[u32], n: usize) -> bool
     ensures { result ≡ C.untouched t.now n }
 {
-    (0..t.len()).all(|i| (i < n) | (word(t, i) == UNWRITTEN))
+    after(t, n).iter().all(|word| *word == UNWRITTEN)
 }
 
 #[tactic(auto, unfolding(crate::specs::Compiled::fine_as))]
@@ -135,7 +137,7 @@ pub(crate) fn size(s: &[u8]) -> usize
     ensures upper_bound { result ≤ 101579258 }
 {
     if byte_at(s, 0) == 3 {
-        return kinds_end(s, u16_at(s, 4)) + 10 * u16_at(s, 6) as usize;
+        return kinds_end(s, u16_at(s, 4)) + 10 * usize::from(u16_at(s, 6));
     }
     stored::answer_size(s)
 }

@@ -12,7 +12,7 @@ use table::{DIFFERENCE, FLAG, GRADE, RATE, ROLE, TARGET, word};
 fn base_of(s: &[u8], b: u16) -> Option<u8>
     ensures { result ≡ C.base_of s.now b }
 {
-    (0..byte_at(s, 3)).find(|j| u16_at(s, 10 + 6 * *j as usize) == b)
+    (0..byte_at(s, 3)).find(|j| u16_at(s, 10 + 6 * usize::from(*j)) == b)
 }
 
 // The bits of a 16-bit numerator in 32.
@@ -38,8 +38,8 @@ fn is_stored(s: &[u8], j: u8, t: &[u32]) -> bool
 {
     is_pair(
         t,
-        widened(u16_at(s, 12 + 6 * j as usize)),
-        u16_at(s, 14 + 6 * j as usize) as u32,
+        widened(u16_at(s, 12 + 6 * usize::from(j))),
+        u32::from(u16_at(s, 14 + 6 * usize::from(j))),
     )
 }
 
@@ -48,7 +48,7 @@ fn is_stored(s: &[u8], j: u8, t: &[u32]) -> bool
 fn is_exponent(s: &[u8], t: &[u32], b: u16) -> bool
     ensures { result ≡ C.exponent_as s.now t.now b }
 {
-    let pair = after(t, 2 * b as usize);
+    let pair = after(t, 2 * usize::from(b));
     match base_of(s, b) {
         Some(j) => is_stored(s, j, pair),
         None => is_pair(pair, 0, 1),
@@ -65,18 +65,18 @@ fn are_exponents(s: &[u8], t: &[u32]) -> bool
 fn are_marks(s: &[u8], t: &[u32]) -> bool
     ensures { result ≡ C.marks_as s.now t.now }
 {
-    (word(t, FLAG) == byte_at(s, 2) as u32)
-        & (word(t, GRADE) == byte_at(s, 1) as u32)
-        & (word(t, ROLE) == byte_at(s, 0) as u32)
+    (word(t, FLAG) == u32::from(byte_at(s, 2)))
+        & (word(t, GRADE) == u32::from(byte_at(s, 1)))
+        & (word(t, ROLE) == u32::from(byte_at(s, 0)))
 }
 
 #[tactic(auto, unfolding(crate::specs::Compiled::links_as))]
 fn are_links(s: &[u8], t: &[u32]) -> bool
     ensures { result ≡ C.links_as s.now t.now }
 {
-    (word(t, DIFFERENCE) == u16_at(s, 4) as u32)
-        & (word(t, TARGET) == u16_at(s, 6) as u32)
-        & (word(t, RATE) == u16_at(s, 8) as u32)
+    (word(t, DIFFERENCE) == u32::from(u16_at(s, 4)))
+        & (word(t, TARGET) == u32::from(u16_at(s, 6)))
+        & (word(t, RATE) == u32::from(u16_at(s, 8)))
 }
 
 #[tactic(auto, unfolding(crate::specs::Compiled::kind_as))]

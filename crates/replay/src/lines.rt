@@ -20,7 +20,7 @@ fn is_line(s: &[u8], line: Line) -> bool
 {
     let bytes = line.bytes;
     let n = line.length;
-    (u16_at(s, 0) as usize == n) & are_bytes(after(s, 2), &bytes, n)
+    (usize::from(u16_at(s, 0)) == n) & are_bytes(after(s, 2), &bytes, n)
 }
 
 // Whether kindcheck prints the line that s begins with.
@@ -37,5 +37,5 @@ pub(crate) fn size(s: &[u8]) -> usize
     ensures value { result ≡ P.line_size s.now }
     ensures upper_bound { result ≤ 65537 }
 {
-    2 + u16_at(s, 0) as usize
+    2 + usize::from(u16_at(s, 0))
 }

@@ -13,7 +13,7 @@ use pieces::Compared;
 use requests::Requests;
 use std::io;
 
-// The groups of these files, in their headers.
+// The groups of these files, in their headers. They are no enum: these two are only compared with a header; the others are matched on as well.
 const COMPILATIONS: u32 = 2;
 
 const LINES: u32 = 6;

@@ -1,8 +1,9 @@
-// A file that is read section by section: an image or what kindcheck reads, and one answer.
+// A file that is read section by section: an image or what kindcheck reads, and one answer. A `u32` of the file is a `usize` by `as`, and a `usize`
+// a `u64`: there is no `From`.
 ghost use Rattle.std.specs.Prelude.{◌≤◌, length, IfOk};
 
 use numbers::{u16_at, u32_at};
-use slices::{after, front, part};
+use slices::{after, front};
 use std::fs::File;
 use std::os::unix::fs::FileExt;
 use std::{fs, io};
@@ -14,7 +15,8 @@ const LIMIT: u64 = 16777216;
 // No section is longer, and no input that it holds.
 const LARGE: usize = 65536;
 
-// Whether the answer that bytes begin with, or the section, agrees, and how many bytes it has.
+// Whether the answer that bytes begin with, or the section, agrees, and how many bytes it has. It isn't a `Part`, which counts: here is
+// one request, which agrees or doesn't.
 #[derive(Clone, Copy)]
 pub(crate) struct Compared {
     pub(crate) agrees: bool,
@@ -28,41 +30,41 @@ fn read_at(file: &File, at: u64, buffer: &mut [u8]) -> io::Result<usize>
     file.read_at(buffer, at)
 }
 
-// The section that s begins with. It has one request.
+// The section that s begins with. It has one request. Here and below the closure is lent from function to function, each of which asks that it can be
+// called: a struct around it would ask the same.
 fn section<F: Fn(&[u8], &[u8]) -> Compared>(s: &[u8], compare: &F, input: &mut [u8]) -> Compared
     requires { F.IsAlwaysCallable compare.now }
 {
-    let packed = u32_at(s, 4) as usize;
-    stored::unpack(part(s, 12, packed), input);
-    let answer = after(s, 12 + packed);
-    let found = compare(answer, front(input, u32_at(s, 0) as usize));
+    let start = stored::unpack_section(s, input);
+    let found = compare(after(s, start), front(input, u32_at(s, 0) as usize));
     Compared {
         agrees: found.agrees & (u16_at(s, 8) == 1),
-        size: found.size.saturating_add(12 + packed),
+        size: found.size.saturating_add(start),
     }
 }
 
 // How many of n sections agree; none if one isn't whole or they don't end with the file. It isn't the walk of `sections`: these files are longer than
-// what is held, so each section is read from its place, and a reading may fail.
+// what is held, so each section is read from its place, and a reading may fail: `?` is for that, so where there is none is said with `return`.
 fn agreed<F: Fn(&[u8], &[u8]) -> Compared>(
     file: &File,
     compare: &F,
     n: u32,
     buffer: &mut [u8],
     input: &mut [u8],
-) -> io::Result<u32>
+) -> io::Result<Option<u32>>
     requires { F.IsAlwaysCallable compare.now }
 {
     let mut at: u64 = 16;
-    let mut count: u32 = 0; // counts what agrees, not the turns
+    // No chain that counts: the place moves on beside the count, and `?` ends the loop.
+    let mut count: u32 = 0;
     for _ in 0..n {
         if LIMIT < at {
-            return Ok(0);
+            return Ok(None);
         }
         let held = read_at(file, at, buffer)?;
         let found = section(&buffer[..held], compare, input);
         if held < found.size {
-            return Ok(0);
+            return Ok(None);
         }
         if found.agrees {
             count += 1;
@@ -70,9 +72,10 @@ fn agreed<F: Fn(&[u8], &[u8]) -> Compared>(
         at += found.size as u64;
     }
     let past = read_at(file, at, buffer)?;
-    Ok(if past == 0 { count } else { 0 })
+    Ok((past == 0).then_some(count))
 }
 
+// What is read and where it goes is handed on one by one: a struct of the file, the closure and the buffer would be made for this one call.
 fn counted<F: Fn(&[u8], &[u8]) -> Compared>(
     file: &File,
     group: u32,
@@ -89,7 +92,7 @@ fn counted<F: Fn(&[u8], &[u8]) -> Compared>(
     let sections = u32_at(head, 8);
     let requests = u32_at(head, 12);
     let mut input = [0u8; LARGE];
-    let agreed = agreed(file, compare, sections, buffer, &mut input)?;
+    let agreed = agreed(file, compare, sections, buffer, &mut input)?.unwrap_or(0);
     Ok(Tally { agreed, requests })
 }
 

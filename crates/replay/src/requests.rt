@@ -7,7 +7,7 @@ ghost use Rattle.formula.specs.Shown.{termed};
 ghost use Rattle.replay.specs.Requests as R;
 
 use dimension::signed32;
-use error::Fault;
+use error::{Fault, INEXACT};
 use formula::Term;
 use lookup::Exponent;
 use numbers::{byte_at, u16_at, u32_at};
@@ -16,7 +16,7 @@ use stored::{is_kind, is_number, is_refusal};
 use table::own_rows;
 
 // What a file has requests for. The number is that of its group, in the header. It is no closure: what is asked and how many bytes a request has are
-// told apart, also in the contracts, so that it would be two closures through six functions, each with a promise of what it computes.
+// told apart, also in the contracts: `replay` promises `agreed_of` and `place_of` by the group, which a closure's contract would have to carry.
 #[derive(Clone, Copy)]
 pub(crate) enum Requests {
     Lookups = 3,
@@ -27,17 +27,19 @@ pub(crate) enum Requests {
 const UNWRITTEN: u16 = 54321;
 
 // The exponent of a power, as it is handed over.
-#[tactic(auto, unfolding(crate::specs::Requests::exponent_in))]
+#[tactic(auto, using(crate::proofs::Asked::is_exact), unfolding(crate::specs::Requests::exponent_in))]
 fn exponent(s: &[u8]) -> Exponent
     ensures { exponent_of result ≡ R.exponent_in s.now }
 {
-    // The code of an operation as the file has it (docs/VECTORS.md), 9 for an inexact power, and above 7 for any power.
-    if byte_at(s, 0) == 9 {
+    // The code of an operation as the file has it (docs/VECTORS.md), above 7 for any power. No enum: `lookup::combine` takes the code itself, so that one
+    // would be turned back.
+    if byte_at(s, 0) == INEXACT {
         return Exponent::Inexact;
     }
     Exponent::Exact(signed32(u32_at(s, 4)), u32_at(s, 8))
 }
 
+// The table and the twin list go on one by one, here and below, as `lookup` and `call` take them: the one is read and the other written.
 #[tactic(auto, unfolding(crate::specs::Requests::lookup_of))]
 fn look_up(s: &[u8], table: &[u32], twins: &mut [u16]) -> Result<u16, Fault>
     ensures value { result ≡ placed (R.lookup_of s.now table.now twins.old) }
@@ -62,7 +64,7 @@ fn run(s: &[u8], table: &[u32], twins: &mut [u16]) -> Result<Term, Fault>
     ensures value { result ≡ termed (R.formula_of s.now table.now twins.old) }
     ensures twins_after { twins.new ≡ twins_after (R.formula_of s.now table.now twins.old) twins.old }
 {
-    let tokens = part(s, 4, 12 * u16_at(s, 0) as usize);
+    let tokens = part(s, 4, 12 * usize::from(u16_at(s, 0)));
     call::call(table, own_rows(table), twins, tokens)
 }
 
@@ -86,7 +88,7 @@ fn request_size(s: &[u8], requests: Requests) -> usize
 {
     match requests {
         Requests::Lookups => 16,
-        Requests::Formulas => 4 + 12 * u16_at(s, 0) as usize,
+        Requests::Formulas => 4 + 12 * usize::from(u16_at(s, 0)),
     }
 }
 
@@ -104,7 +106,7 @@ pub(crate) fn size(s: &[u8], requests: Requests) -> usize
 fn kept(twins: &[u16], n: usize) -> bool
     ensures { result ≡ R.kept twins.now n }
 {
-    (0..twins.len()).all(|i| (i < n) | (twins[i] == UNWRITTEN))
+    after(twins, n).iter().all(|twin| *twin == UNWRITTEN)
 }
 
 // Whether the answer that s begins with is this one, with this twin list.
@@ -123,7 +125,7 @@ fn is_stored(s: &[u8], answer: Result<Term, Fault>, twins: &[u16]) -> bool
 fn confirmed(s: &[u8], answer: Result<Term, Fault>, twins: &[u16]) -> bool
     ensures { result ≡ R.confirmed s.now answer twins.now }
 {
-    is_stored(s, answer, twins) & kept(twins, u16_at(s, 6) as usize)
+    is_stored(s, answer, twins) & kept(twins, usize::from(u16_at(s, 6)))
 }
 
 // Whether the first request is answered as it is stored.

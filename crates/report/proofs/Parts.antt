@@ -1,14 +1,13 @@
 -- What the code finds on its way to a kind's part, and the part. Assumes nothing.
-use Prim.Native.Nat.{ℕ, ◌+◌, ◌<◌, ◌≤◌}
+use Prim.Native.Nat.{ℕ, ◌<◌, ◌≤◌}
 use mathlib.Core.Path.{◌≡◌, refl, sym, ◌∙◌, ap}
 use mathlib.Core.Bool.{Bool, true, false, not, cond}
 use mathlib.Core.List.{List, []}
-use lib.Dec.{eqb, ltb}
+use lib.Dec.{ltb}
 use lib.ListN.{take, drop}
 use borrow.Author.Tests.{lt-ltb, le-ltb, not-true, not-false}
 use Rattle.laws.specs.Out.{given, refused}
-use Rattle.rules.specs.Bytes.{byte}
-use Rattle.rules.specs.Layout.{filled, kind_count}
+use Rattle.rules.specs.Layout.{kind_count}
 use Rattle.rules.specs.Catalog.{kind_at}
 use Rattle.rules.specs.Image.{image_check}
 use Rattle.rules.specs.Refusal.{Placed}
@@ -18,14 +17,6 @@ use Rattle.std.specs.Result.{is_ok}
 use Rattle.error.specs.Shown.{fine}
 use Rattle.error.specs.declared.fault.Fault.{Fault}
 use Rattle.report.specs.Shown.{is_readable, padded, id_length}
-
-pub padding_told : (s : List ℕ) (p i : ℕ) {v : ℕ} → v ≡ byte s (p + i) → eqb v 0 ≡ padded s p i
-unfolding padded filled
-padding_told s p i e = rw e (twice (eqb (byte s (p + i)) 0))
-  where
-    twice : (b : Bool) → b ≡ not (not b)
-    twice true = refl
-    twice false = refl
 
 -- whether a check of the image passed
 pub readable : (s : List ℕ) {a : Result (Unit {0}) Fault} {b : Bool} → a ≡ fine (image_check s) → b ≡ is_ok a → b ≡ is_readable s

@@ -1,15 +1,14 @@
 // The report: a kind's id, or the caller's own word for a number, as a part of what was lent. Nothing is copied.
 #![tactic(auto)]
 
-ghost use Rattle.std.specs.Prelude.{◌≡◌, ◌<◌};
+ghost use Rattle.std.specs.Prelude.{◌≡◌};
 ghost use Rattle.rules.specs.Report as rule;
 ghost use Rattle.formula.specs.Shown.{term_of};
-ghost use Rattle.report.specs.Shown.{is_readable, padded, id_length};
+ghost use Rattle.report.specs.Shown.{is_readable, id_length};
 
 use catalog::{kind_count, kind_place};
 use formula::Term;
 use image::check_image;
-use numbers::byte_at;
 use slices::part;
 
 // Whether the image meets none of 1 to 4.
@@ -20,26 +19,14 @@ fn is_readable(image: &[u8]) -> bool
     check_image(image).is_ok()
 }
 
-// Whether byte i of the id at p is padding.
-#[tactic(auto, using(crate::proofs::Parts::padding_told))]
-fn is_padding(image: &[u8], p: u32, i: usize) -> bool
-    requires { i < 32 }
-    ensures { result ≡ padded image.now p i }
-{
-    byte_at(image, p as usize + i) == 0
-}
-
-// How many bytes of the id at p come before its padding.
-#[tactic(auto, using(laws::proofs::First::scan), unfolding(crate::specs::Shown::id_length))]
+// How many bytes of the id at p come before its padding. A `u32` is a `usize` by `as`, here and below: there is no `From`.
 fn id_length(image: &[u8], p: u32) -> usize
     ensures { result ≡ id_length image.now p }
 {
-    for i in 0..32 {
-        if is_padding(image, p, i) {
-            return i;
-        }
-    }
-    32
+    part(image, p as usize, 32)
+        .iter()
+        .take_while(|b| **b != 0)
+        .count()
 }
 
 // The id at p, its padding left off.

@@ -1,14 +1,14 @@
 -- One row stands for a list of rows in a lookup: the one for the pair, where all are in range. Assumes nothing.
 use Prim.Native.Nat.{ℕ, zero, suc, ◌+◌, ◌*◌, ◌/◌, ◌%◌}
 use mathlib.Core.Path.{◌≡◌, refl, sym, ◌∙◌, ap}
-use mathlib.Core.Bool.{Bool, true, false, ◌&&◌, and-false}
+use mathlib.Core.Bool.{Bool, true, false, not, ◌&&◌, and-false}
 use mathlib.Core.List.{List, [], ◌∷◌}
 use Rattle.std.specs.declared.option.Option.{Option}
 use Rattle.std.specs.declared.option.Option.TheVariants.{None, Some}
 use native.Mathlib.Omega.{arith}
 use lib.Dec.{eqb, ltb}
 use lib.ListN.{length}
-use borrow.Author.Tests.{eqb-true, eq-eqb}
+use borrow.Author.Tests.{eqb-true, eq-eqb, not-true}
 use Rattle.laws.specs.Out.{given, refused, needed, known, ◌>>=◌, ◌>>◌}
 use Rattle.laws.specs.Ranges.{first, all}
 use Rattle.laws.proofs.First.{first_below, first_passes}
@@ -26,6 +26,14 @@ use Rattle.std.specs.declared.result.Result.{Result}
 use Rattle.error.specs.declared.fault.Fault.{Fault}
 use Rattle.lookup.specs.Shown.{op_by, placed}
 use Rattle.rows.specs.Standing.{standing}
+
+-- ---- what a lookup over the rows s hands back: where rows are out of range, what it hands back over one word that is no row
+abbrev pub Told : List ℕ → List ℕ → List ℕ → ℕ → ℕ → ℕ → Result ℕ Fault → List ℕ → Type 0
+Told t s tw code l r v w = (v ≡ placed (lone.combine t s tw code l r)) × (w ≡ twins_after (lone.combine t s tw code l r) tw)
+
+pub wrong_stands : (t tw : List ℕ) (code l r : ℕ) (fine : Bool) (named : Option ℕ) {v : Result ℕ Fault} {w : List ℕ} → not fine ≡ true → Told t (0 ∷ []) tw code l r v w → Told t (standing fine named code l r) tw code l r v w
+unfolding standing
+wrong_stands t tw code l r fine named p e = let f : fine ≡ false = not-true fine p in rw f e
 
 -- ---- a lookup reads of its rows whether they are in range, and what they name for the pair
 module _ (K : Kinds) (l r : ℕ) where

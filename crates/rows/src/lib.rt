@@ -16,7 +16,7 @@ use lookup::{combine, op_of};
 use table::{index_or, op_word, word};
 use valid::are_rows;
 
-// A row in force.
+// A row in force. Its operation is a number as in a table's words, since a caller lends rows as numbers, in range or not.
 #[derive(Clone, Copy)]
 pub struct Row {
     pub left: u32,
@@ -30,10 +30,11 @@ pub struct Row {
 fn is_for(row: Row, l: u16, op: ProductOp, r: u16) -> bool
     ensures { result ≡ T.is_row (flat (row ∷ [])) l op r 0 }
 {
-    (row.left == l as u32) & (row.op == op_word(op)) & (row.right == r as u32)
+    (row.left == u32::from(l)) & (row.op == op_word(op)) & (row.right == u32::from(r))
 }
 
 // The kind that the first row for a pair names.
+#[tactic(auto, using(laws::proofs::First::first_none, crate::proofs::Words::row_next, crate::proofs::Words::row_here, crate::proofs::Words::row_end))]
 pub fn row_in(rows: &[Row], l: u16, op: ProductOp, r: u16) -> Option<u16>
     ensures { result ≡ T.rows_of (flat rows.now) l op r }
 {
@@ -55,6 +56,7 @@ fn is_fine(t: &[u32], row: Row) -> bool
 }
 
 // Whether each row is a row over the table's kinds.
+#[tactic(auto, using(laws::proofs::All::all_none, crate::proofs::Words::fine_next, crate::proofs::Words::fine_wrong, crate::proofs::Words::fine_end))]
 pub fn are_rows_in(t: &[u32], rows: &[Row]) -> bool
     ensures { result ≡ T.are_rows t.now (flat rows.now) }
 {
@@ -78,13 +80,18 @@ fn with_row(
     ensures value { result ≡ placed (lone.combine table.now (T.row_words l (op_by code) r k) twins.old code l r) }
     ensures twins_after { twins.new ≡ twins_after (lone.combine table.now (T.row_words l (op_by code) r k) twins.old code l r) twins.old }
 {
-    let words = [l as u32, op_word(op_of(code)), r as u32, k as u32];
+    let words = [
+        u32::from(l),
+        op_word(op_of(code)),
+        u32::from(r),
+        u32::from(k),
+    ];
     combine(table, &words, twins, code, l, r)
 }
 
-// A lookup over rows of which is known whether they are in range, and what the first for the pair names. `fine` is no flag of `named`: rows in range
-// may hold none for the pair, and rows out of range may hold one. The one word 0 stands for rows out of range, since words that are no whole row never
-// are rows: the lookup takes words, so the list itself can't be handed on.
+// A lookup over rows of which is known whether they are in range, and what the first for the pair names. `named` isn't read where `fine` is false; the
+// pair stays, as a public signature: an enum of the three cases would ask more of a caller. The one word 0 stands for rows out of range, since words that
+// are no whole row never are rows: the lookup takes words, so the list itself can't be handed on.
 #[tactic(auto, unfolding(crate::specs::Standing::standing))]
 pub fn combine_by(
     table: &[u32],
@@ -164,6 +171,7 @@ fn records(words: &[u32]) -> [Row; 400]
 }
 
 // The kind that the first row for a pair names, of the first 400 rows of the words.
+#[tactic(auto, using(crate::proofs::Listed::listed))]
 pub fn row_among(words: &[u32], l: u16, op: ProductOp, r: u16) -> Option<u16>
     ensures { result ≡ T.rows_of (take 1600 words.now) l op r }
 {

@@ -14,7 +14,7 @@ fn twins_at(s: &[u8]) -> usize
     ensures value { result ≡ rule.twins_at s.now }
     ensures upper_bound { result ≤ 262148 }
 {
-    8 + 4 * u16_at(s, 4) as usize
+    8 + 4 * usize::from(u16_at(s, 4))
 }
 
 // The bytes of the answer that s begins with, unless it is a compilation's.
@@ -23,7 +23,7 @@ pub fn answer_size(s: &[u8]) -> usize
     ensures value { result ≡ rule.size_of s.now }
     ensures upper_bound { result ≤ 393218 }
 {
-    twins_at(s) + 2 * u16_at(s, 6) as usize
+    twins_at(s) + 2 * usize::from(u16_at(s, 6))
 }
 
 #[tactic(auto, unfolding(crate::specs::Answers::twin_as))]
@@ -34,12 +34,13 @@ fn is_twin(s: &[u8], twins: &[u16], i: usize) -> bool
     u16_at(s, twins_at(s) + 2 * i) == twins[i]
 }
 
-// Not `==` of two slices: the stored twins are bytes, two for each.
-#[tactic(auto, using(laws::proofs::All::alls), unfolding(crate::specs::Answers::twins_as))]
+// Not `==` of two slices: the stored twins are bytes, two for each. A loop, here and of values, since the ruleset `alls` speaks of it; `all` over a closure
+// takes a law of its own, as in `replay`.
+#[tactic(auto, using(crate::proofs::Compared::twin_differs, laws::proofs::All::alls), unfolding(crate::specs::Answers::twins_as))]
 fn are_twins(s: &[u8], twins: &[u16]) -> bool
     ensures { result ≡ rule.twins_as s.now twins.now }
 {
-    let n = u16_at(s, 6) as usize;
+    let n = usize::from(u16_at(s, 6));
     if twins.len() < n {
         return false;
     }
@@ -56,7 +57,7 @@ fn are_twins(s: &[u8], twins: &[u16]) -> bool
 fn is_place(stored: u16, place: usize) -> bool
     ensures { result ≡ rule.place_as stored place }
 {
-    (stored == 65535) | (stored as usize == place)
+    (stored == 65535) | (usize::from(stored) == place)
 }
 
 #[tactic(auto, unfolding(crate::specs::Answers::value_as))]
@@ -64,11 +65,12 @@ fn is_value(s: &[u8], at: usize, said: Said, i: usize) -> bool
     requires { (at ≤ 104) × (i ≤ 65535) }
     ensures { result ≡ rule.value_as s.now at said i }
 {
+    // By `as`: there is no `From` of a `u32` for `usize`.
     u32_at(s, at + 4 * i) as usize == said.values.get(i).copied().unwrap_or(0)
 }
 
 // Not `==` of two slices: the stored values are bytes, four for each, and of those past the four of a refusal 0 is said.
-#[tactic(auto, using(laws::proofs::All::alls), unfolding(crate::specs::Answers::values_as))]
+#[tactic(auto, using(crate::proofs::Compared::value_differs, laws::proofs::All::alls), unfolding(crate::specs::Answers::values_as))]
 fn are_values(s: &[u8], at: usize, said: Said) -> bool
     requires { (at ≤ 104) × (said.count ≤ 65535) }
     ensures { result ≡ rule.values_as s.now at said }
@@ -93,6 +95,7 @@ fn numbers_before(dims: Option<Dimensions>) -> usize
     }
 }
 
+// By `equals`: its contract is the `D.equal` that the definition cites.
 #[tactic(auto, unfolding(crate::specs::Answers::dimensions_as))]
 fn are_dimensions(s: &[u8], dims: Option<Dimensions>) -> bool
     ensures { result ≡ rule.dimensions_as s.now dims }
@@ -108,7 +111,7 @@ fn are_numbers(s: &[u8], said: Said) -> bool
     ensures { result ≡ rule.numbers_as s.now said }
 {
     let before = numbers_before(said.dims);
-    let count = u16_at(s, 4) as usize;
+    let count = usize::from(u16_at(s, 4));
     if count.checked_sub(before) != Some(said.count) {
         return false;
     }
@@ -120,10 +123,10 @@ fn is_cause(s: &[u8], said: Said, place: usize) -> bool
     ensures { result ≡ rule.cause_as s.now said place }
 {
     // 0 to 3 are the bytes that the files begin an answer with (docs/VECTORS.md); each is compared at one place, so none has a type here.
-    (byte_at(s, 0) == 2) & (byte_at(s, 1) as u32 == said.number) & is_place(u16_at(s, 2), place)
+    (byte_at(s, 0) == 2) & (u32::from(byte_at(s, 1)) == said.number) & is_place(u16_at(s, 2), place)
 }
 
-// A number or a kind: nothing else is stored with it.
+// A number or a kind: nothing else is stored with it. What it is goes by the file's own number, 0 or 1, each of which one caller names.
 #[tactic(auto, unfolding(crate::specs::Answers::plain_as))]
 fn is_plain(s: &[u8], what: u16, index: u16) -> bool
     ensures { result ≡ rule.plain_as s.now what index }

@@ -10,5 +10,5 @@ mod tally;
 pub use answers::{answer_size, is_kind, is_number, is_refusal};
 pub use exponents::{dimensions, exponent};
 pub use files::is_group;
-pub use packed::unpack;
-pub use tally::{ROOM, Tally, UNREADABLE, read, room};
+pub use packed::{LONGEST, unpack, unpack_section};
+pub use tally::{Part, ROOM, Tally, UNREADABLE, read, room};

@@ -13,6 +13,13 @@ pub struct Tally {
     pub requests: u32,
 }
 
+// How many requests of a part of a file agree, and its bytes.
+#[derive(Clone, Copy)]
+pub struct Part {
+    pub agreed: u32,
+    pub size: usize,
+}
+
 // What is told of a file that isn't there or isn't of its group: no stored file has no requests, so this is never what is expected. It isn't `None`,
 // since each file has its line of two numbers, which is compared with the one that is wanted.
 pub const UNREADABLE: Tally = Tally {
@@ -42,7 +49,7 @@ pub fn room() -> [u8; ROOM]
 }
 
 // How many bytes of the file were put into the buffer: none if it can't be opened, and none if it fills the buffer, since it may go on. No bytes have
-// no header, so a caller asks nothing more of 0 than of any other file.
+// no header, so a caller asks nothing more of 0 than of any other file. A length, as std's `read` answers it, so that the caller may cut it.
 pub fn read<R: fs::Files>(files: &R, name: &str, buffer: &mut [u8]) -> io::Result<usize>
     ensures { IfOk result (λ n. n ≤ length buffer.new - 1) }
 {

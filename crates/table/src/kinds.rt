@@ -1,4 +1,5 @@
-// What the table says of kind k. Past the count no word of a kind is read, so there is an answer for every k.
+// What the table says of kind k. Past the count no word of a kind is read, so there is an answer for every k. Words and kind go side by side: the words
+// are lent and every k is answered, so a struct of both would be made at each call and hold nothing of either.
 #![tactic(auto, using(crate::proofs::Fields::fields))]
 
 ghost use Rattle.std.specs.Prelude.{◌≡◌, ◌<◌};
@@ -12,7 +13,7 @@ use crate::places::{DIFFERENCE, FLAG, GRADE, KIND, KINDS, RATE, TARGET};
 use crate::words::{dims_from, index_at, word};
 use dimension::Dimensions;
 
-// At most 240, whatever the word says.
+// At most 240, whatever the word says, so that it fits 16 bits: a `try_from` would have an error that no word gives.
 pub fn kind_count(t: &[u32]) -> u16
     ensures { result ≡ (T.kinds_of t.now).count }
 {
@@ -25,18 +26,18 @@ fn field(t: &[u32], k: u16, f: usize) -> u32
     ensures { result ≡ field t.now k f }
 {
     if k < kind_count(t) {
-        return word(t, KINDS + KIND * k as usize + f);
+        return word(t, KINDS + KIND * usize::from(k) + f);
     }
     0
 }
 
-// The kind that word f of kind k names, or none past the count.
+// The kind that word f of kind k names, or none past the count. It asks the count itself: what `field` answers there, 0, would name kind 0.
 fn link(t: &[u32], k: u16, f: usize) -> Option<u16>
     requires { f < 32 }
     ensures { result ≡ link t.now k f }
 {
     if k < kind_count(t) {
-        return index_at(t, KINDS + KIND * k as usize + f);
+        return index_at(t, KINDS + KIND * usize::from(k) + f);
     }
     None
 }
@@ -48,12 +49,12 @@ pub fn is_resolved(t: &[u32], k: u16) -> bool
     field(t, k, FLAG) == 1
 }
 
-// Dimension one for an unresolved kind.
+// Dimension one for an unresolved kind. The place goes by `as`: the test before says that k is below 240, so a `try_from` would never err.
 pub fn dims_of(t: &[u32], k: u16) -> Dimensions
     ensures { result ≡ found ((T.kinds_of t.now).dims k) (λ d. d) D.one }
 {
     if is_resolved(t, k) {
-        return dims_from(t, (KINDS + KIND * k as usize) as u32);
+        return dims_from(t, (KINDS + KIND * usize::from(k)) as u32);
     }
     Dimensions::one()
 }

@@ -1,5 +1,5 @@
-// Where the parts of a table lie, and the words of a head and of a kind's marks in their order: docs/TABLE.md in code. Nothing outside this crate has
-// these numbers.
+// Where the parts of a table lie, and the words of a head and of a kind's marks in their order: docs/TABLE.md in code. The crates above have
+// these numbers by their names.
 ghost use Rattle.std.specs.Prelude.{◌≡◌, [], ◌∷◌};
 ghost use Rattle.rules.specs.Kinds as K;
 
@@ -36,10 +36,11 @@ pub type Marks = [u32; 8];
 pub fn head_words(kinds: u32, rows: u32, dimensionless: u16, time: u16) -> Head
     ensures { result ≡ kinds ∷ rows ∷ dimensionless ∷ time ∷ [] }
 {
-    [kinds, rows, dimensionless as u32, time as u32]
+    [kinds, rows, u32::from(dimensionless), u32::from(time)]
 }
 
-// A kind's words past its exponents. These are the words themselves, so a link that isn't there is 65,535 and no option.
+// A kind's words past its exponents. These are the words themselves, so a link that isn't there is 65,535 and no option, and flag and role are the
+// numbers that docs/TABLE.md gives them. They go one by one, in the order of the words: a struct of them would be these words under another name.
 pub fn mark_words(
     flag: u32,
     grade: u32,
@@ -54,15 +55,15 @@ pub fn mark_words(
         flag,
         grade,
         role,
-        difference as u32,
-        target as u32,
-        rate as u32,
+        u32::from(difference),
+        u32::from(target),
+        u32::from(rate),
         0,
         0,
     ]
 }
 
-// The word that an operation has in a row: a number, since a table is words.
+// The word that an operation has in a row: a number, since a table is words. By a name of its own and no `From`, since its token's code is another number.
 pub fn op_word(op: ProductOp) -> u32
     ensures { result ≡ K.op_word op }
 {

@@ -1,16 +1,19 @@
-// Rows in force, four words each: left, operation, right, result.
+// Rows in force, four words each: left, operation, right, result. The operation sought is o, its word, made once before the scan: a row is compared with
+// words. Left, o and right go on one by one, as the public lookup is given them: a struct of the three would be made there alone and say no more. A row is
+// told by the place of its first word, as the rule tells it: with chunks of four each contract here would turn them back into such places.
 ghost use Rattle.std.specs.Prelude.{◌≡◌, ◌+◌, ◌*◌, ◌/◌, ◌≤◌, length};
 ghost use Rattle.laws.specs.Options.{is_some};
 ghost use Rattle.laws.specs.Ranges.{first, first_from};
 ghost use Rattle.rules.specs.Table as T;
 ghost use Rattle.table.specs.Shown.{left_is, row_for};
 
-use crate::places::{ROWS, op_word};
+use crate::places::{ROW, ROWS, op_word};
 use crate::words::{index_at, word};
 use dimension::ProductOp;
 use slices::part;
 
-// Whether one of the sixteen rows from row `from` on, all of them there, has this left kind. None of them ends the loop.
+// Whether one of the sixteen rows from row `from` on, all of them there, has this left kind. None of them ends the loop: with
+// `first_row` alone, which asks of each row whether it is the one, a compilation of the largest catalog takes 1.63 million instructions in place of 1.48.
 #[tactic(auto, using(laws::proofs::FirstFrom::anys), unfolding(crate::specs::Shown::left_is))]
 fn any_left(s: &[u32], from: usize, l: u16) -> bool
     requires { 4 * (from + 16) ≤ length s.now }
@@ -18,7 +21,7 @@ fn any_left(s: &[u32], from: usize, l: u16) -> bool
 {
     let mut any = false;
     for i in 0..16 {
-        any = any | (s[4 * (from + i)] == l as u32);
+        any = any | (s[ROW * (from + i)] == u32::from(l));
     }
     any
 }
@@ -29,10 +32,10 @@ fn row_for(s: &[u32], l: u16, o: u32, r: u16, i: usize) -> bool
     requires { 4 * (i + 1) ≤ length s.now }
     ensures { result ≡ row_for s.now l o r i }
 {
-    if s[4 * i] != l as u32 {
+    if s[ROW * i] != u32::from(l) {
         return false;
     }
-    (s[4 * i + 1] == o) & (s[4 * i + 2] == r as u32)
+    (s[ROW * i + 1] == o) & (s[ROW * i + 2] == u32::from(r))
 }
 
 // The first of the m rows from row `from` on, all of them there, that is for that very pair.
@@ -66,7 +69,7 @@ fn of_sixteen(s: &[u32], from: usize, l: u16, o: u32, r: u16) -> Option<usize>
 fn found_row(s: &[u32], l: u16, o: u32, r: u16) -> Option<usize>
     ensures { result ≡ first (row_for s.now l o r) (length s.now / 4) }
 {
-    let n = s.len() / 4;
+    let n = s.len() / ROW;
     for block in 0..n / 16 {
         if let Some(i) = of_sixteen(s, 16 * block, l, o, r) {
             return Some(i);
@@ -81,13 +84,13 @@ pub fn row_of(rows: &[u32], l: u16, op: ProductOp, r: u16) -> Option<u16>
     ensures { result ≡ T.rows_of rows.now l op r }
 {
     let i = found_row(rows, l, op_word(op), r)?;
-    index_at(rows, 4 * i + 3)
+    index_at(rows, ROW * i + 3)
 }
 
-// The rows that a table holds itself, behind its kinds: as many as its second word says.
+// The rows that a table holds itself, behind its kinds: as many as its second word says. It goes by `as`, as no `From` takes 32 bits to an index.
 #[tactic(auto, unfolding(rules::specs::Table::own_rows))]
 pub fn own_rows(table: &[u32]) -> &[u32]
     ensures { result.now ≡ T.own_rows table.now }
 {
-    part(table, ROWS, 4 * word(table, 1) as usize)
+    part(table, ROWS, ROW * word(table, 1) as usize)
 }

@@ -1,4 +1,4 @@
-// Words, and the exponents and indexes that they stand for. `word` alone indexes the table.
+// Words, and the exponents and indexes that they stand for. `word` answers for every place; the table is indexed only where a place is known to be there.
 ghost use Rattle.std.specs.Prelude.{◌≡◌, ◌<◌, length};
 ghost use Rattle.dimension.specs.Integer as I;
 ghost use Rattle.rules.specs.Table as T;
@@ -9,10 +9,11 @@ use dimension::{Dimensions, Rational};
 pub fn word(t: &[u32], i: usize) -> u32
     ensures { result ≡ T.word t.now i }
 {
-    if i < t.len() { t[i] } else { 0 }
+    t.get(i).copied().unwrap_or(0)
 }
 
-// A word from 65,535 on names no kind; below, it fits 16 bits. 65,535 is the table's own word for none: words are lent, and hold no option.
+// A word from 65,535 on names no kind; below, it fits 16 bits. 65,535 is the table's own word for none: words are lent, and hold no option. The test
+// comes before the cast, so a `try_from` would test once more.
 pub fn index_or(w: u32) -> Option<u16>
     ensures { result ≡ T.index_or w }
 {
@@ -29,7 +30,8 @@ pub(crate) fn index_at(t: &[u32], p: usize) -> Option<u16>
     index_or(word(t, p))
 }
 
-// The exponent of base b: the numerator's bits, then the denominator.
+// The exponent of base b: the numerator's bits, then the denominator. A place of 32 bits keeps the sum from overflow, so that every place is answered; it
+// goes by `as`, as no `From` takes so many bits to an index.
 #[tactic(auto, unfolding(rules::specs::Table::exponent_from))]
 pub fn exponent(t: &[u32], p: u32, b: u32) -> Rational
     ensures { result ≡ T.exponent_from t.now p b }
@@ -40,7 +42,9 @@ pub fn exponent(t: &[u32], p: u32, b: u32) -> Rational
     Rational { num, den }
 }
 
-// The twelve exponents from place p on.
+// The twelve exponents from place p on. Bases are counted in 32 bits, as `exponent` is asked for them, and go by `as` to an index. It is put into its
+// callers: where it is called, a compilation of the largest catalog takes 80,000 instructions more.
+#[inline(always)]
 pub(crate) fn dims_from(t: &[u32], p: u32) -> Dimensions
     ensures { result ≡ T.dims_from t.now p }
 {
@@ -51,16 +55,11 @@ pub(crate) fn dims_from(t: &[u32], p: u32) -> Dimensions
     d
 }
 
-// The dimensions that 24 words by themselves stand for. Its loop is its own: called from here too, `dims_from` is no longer put into its other caller,
-// and a compilation of the largest catalog takes 80,000 instructions more.
+// The dimensions that 24 words by themselves stand for.
 pub fn dims_in(w: &[u32]) -> Dimensions
     ensures { result ≡ T.dims_from w.now 0 }
 {
-    let mut d = Dimensions::one();
-    for b in 0..12u32 {
-        d.powers[b as usize] = exponent(w, 0, b);
-    }
-    d
+    dims_from(w, 0)
 }
 
 // The bits that stand for a numerator.

@@ -17,7 +17,8 @@ fn one_more(depth: usize) -> Option<usize>
     None
 }
 
-// A power and the absolute value take one term and give one.
+// A power and the absolute value take one term and give one. This and the next differ in two numbers of two lines: one function of the terms taken would
+// need a bound on them and be no plainer.
 #[tactic(auto, unfolding(crate::specs::Shown::kept))]
 fn as_many(depth: usize) -> Option<usize>
     ensures { result ≡ kept depth }

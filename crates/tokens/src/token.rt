@@ -8,8 +8,8 @@ ghost use Rattle.rules.specs.Token.{token_by, token_at};
 ghost use Rattle.tokens.specs.Shown.{coded, unused, made};
 
 use dimension::{Rational, signed32};
-use error::Op;
-use numbers::{byte_at, u16_at, u32_at};
+use error::{ABSOLUTE, COMPARE, EXACT, INEXACT, Op};
+use numbers::{byte_at, u16_at, u16_of, u32_at};
 
 // What takes one term: a power with an exact exponent, in lowest terms within the limits, or an inexact one, and the absolute value.
 #[derive(Clone, Copy)]
@@ -26,6 +26,7 @@ pub enum Binary {
     Compare,
 }
 
+// Unreadable is a case and no Option: it is one of the rules' tokens, and a walk refuses it as it does them.
 #[derive(Clone, Copy)]
 pub enum Token {
     Number,
@@ -63,7 +64,8 @@ fn exact_power(num: u32, den: u32) -> Token
     power(signed32(num), den)
 }
 
-// A token by its code, whatever the fields it doesn't use hold. Kinds and operations are most of a formula, so they are asked first.
+// A token by its code, whatever the fields it doesn't use hold. Codes are lent bytes, and here they become cases. Kinds and operations are most of a
+// formula, so they are asked first. 0 and 1, a number's code and a kind's, have no name: they are asked for in this file alone.
 #[tactic(auto, unfolding(rules::specs::Token::token_by))]
 fn token_by(f: Fields) -> Token
     ensures { result ≡ coded (token_by f.code f.index (F.lowest (I.twos 2147483648 f.num) f.den)) }
@@ -76,15 +78,16 @@ fn token_by(f: Fields) -> Token
     }
     match f.code {
         0 => Token::Number,
-        8 => exact_power(f.num, f.den),
-        9 => Token::Unary(Unary::Inexact),
-        10 => Token::Unary(Unary::Absolute),
-        11 => Token::Binary(Binary::Compare),
+        EXACT => exact_power(f.num, f.den),
+        INEXACT => Token::Unary(Unary::Inexact),
+        ABSOLUTE => Token::Unary(Unary::Absolute),
+        COMPARE => Token::Binary(Binary::Compare),
         _ => Token::Unreadable,
     }
 }
 
-// Whether the fields that a code doesn't use are zero. The code is asked first, so that only these are looked at.
+// Whether the fields that a code doesn't use are zero. The code is asked first, so that only these are looked at. It is still a number here, 1 for a kind,
+// since the fields are tested before there is a token.
 #[tactic(auto, unfolding(crate::specs::Shown::unused))]
 fn unused_zero(f: Fields) -> bool
     ensures { result ≡ unused f.code f.second f.index f.num f.den }
@@ -92,7 +95,7 @@ fn unused_zero(f: Fields) -> bool
     if f.code == 1 {
         return (f.second == 0) & (f.num == 0) & (f.den == 0);
     }
-    if f.code == 8 {
+    if f.code == EXACT {
         return (f.second == 0) & (f.index == 0);
     }
     (f.second == 0) & (f.index == 0) & (f.num == 0) & (f.den == 0)
@@ -116,13 +119,6 @@ pub fn token_count(bytes: &[u8]) -> usize
     bytes.len() / 12
 }
 
-// A 16-bit number from its two bytes, each read by itself, as in `numbers`, where a line says why.
-fn u16_of(low: u8, high: u8) -> u16
-    ensures { result ≡ low + 256 * high }
-{
-    low as u16 + 256 * (high as u16)
-}
-
 // The 16-bit number at a place whose two bytes are there.
 #[tactic(auto, unfolding(rules::specs::Bytes::le2))]
 fn u16_within(bytes: &[u8], p: usize) -> u16
@@ -138,7 +134,7 @@ fn u32_within(bytes: &[u8], p: usize) -> u32
     requires { p + 4 ≤ length bytes.now }
     ensures { result ≡ le4 bytes.now p }
 {
-    u16_within(bytes, p) as u32 + 65536 * (u16_within(bytes, p + 2) as u32)
+    u32::from(u16_within(bytes, p)) + 65536 * u32::from(u16_within(bytes, p + 2))
 }
 
 // The fields of token k where its twelve bytes are all there, so that no place needs a test and each field is read at once. With `fields_past` alone a
@@ -159,7 +155,7 @@ fn fields_within(bytes: &[u8], k: usize) -> Fields
 }
 
 // The fields of token k, whatever lies past the end. Far past it there are only zeros; asking so first keeps 12 k small.
-#[tactic(auto, using(crate::proofs::Listed::token_fields), unfolding(crate::specs::Shown::made))]
+#[tactic(auto, using(crate::proofs::Listed::token_fields, crate::proofs::Listed::token_past), unfolding(crate::specs::Shown::made, crate::specs::Shown::token_of, crate::specs::Shown::unused, rules::specs::Token::token_by))]
 fn fields_past(bytes: &[u8], k: usize) -> Fields
     ensures { made result ≡ token_at bytes.now k }
 {

@@ -39,8 +39,3 @@ module _ (f : ℕ → ℕ) where
   pub ors_next : (i : ℕ) {v x : ℕ} → v ≡ ors f i → x ≡ f i → bit_or v x ≡ ors f (i + 1)
   unfolding ors
   ors_next i e q = rw (add-one, ors, e, q)
-
-  -- six at once
-  pub ors_six : {a b c d e x : ℕ} → a ≡ f 0 → b ≡ f 1 → c ≡ f 2 → d ≡ f 3 → e ≡ f 4 → x ≡ f 5 → bit_or (bit_or (bit_or (bit_or (bit_or a b) c) d) e) x ≡ ors f 6
-  unfolding ors
-  ors_six p q r s u v = rw (p, q, r, s, u, v)

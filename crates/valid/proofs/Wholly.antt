@@ -1,5 +1,5 @@
 -- The exponents of all kinds are whole numbers exactly if what is gathered of their words says so. Assumes nothing.
-use Rattle.std.proofs.Common.{◌≡◌, ℕ, ◌+◌, ◌*◌, ◌%◌, ◌<◌, ◌≤◌, Bool, true, false, cond, ◌&&◌, ◌||◌, eqb, ltb, leb, List, length, sym, refl, ◌∙◌, add-zero, arith, ltb-false, ltb-true, le-ltb, lt-ltb, eqb-true, le-leb, leb-false, leb-true}
+use Rattle.std.proofs.Common.{◌≡◌, ℕ, ◌+◌, ◌*◌, ◌%◌, ◌<◌, ◌≤◌, Bool, true, false, cond, ◌&&◌, ◌||◌, eqb, ltb, leb, List, length, sym, refl, ◌∙◌, arith, ltb-false, ltb-true, le-ltb, lt-ltb, eqb-true, le-leb, leb-false, leb-true}
 use mathlib.Core.Bool.{and-true}
 use lib.Bits.{bit_or}
 use borrow.Author.Tests.{eqb-false}
@@ -13,11 +13,6 @@ use Rattle.joined.proofs.Wholes.{all_whole_fine}
 use Rattle.valid.specs.Shown.{ors, raised}
 use Rattle.valid.proofs.Joint.{all_and, all_same, all_pairs}
 use Rattle.valid.proofs.Ors.{or_below, ors_below, none_below}
-
--- the first of every fourth word is the one at the place itself
-pub raised_first : (t : List ℕ) (m p : ℕ) → (word t p + m) % 4294967296 ≡ raised t m p 0
-unfolding raised
-raised_first t m p = rw (add-zero p)
 
 -- ---- one word
 module _ (x : ℕ) (h : x < 4294967296) where

@@ -6,11 +6,10 @@ ghost use Rattle.rules.specs.Table as T;
 ghost use Rattle.valid.specs.Shown.{ors, raised};
 
 use joined::whole_from;
-use std::num::wrapping_add_u32;
 use table::{FLAG, KIND, KINDS, exponent, word};
 
 // The exponents of a kind whose dimensions are given. Whole ones are seen first: fractions, each seen reduced by itself, take some 1,400 instructions a
-// kind.
+// kind. The place goes by `as`: it is bound to fit, so a `try_from` would never err.
 pub(crate) fn exponents_fine(t: &[u32], p: usize) -> bool
     requires { p < 4294967296 }
     ensures { result ≡ T.exponents_fine t.now p }
@@ -30,16 +29,16 @@ pub(crate) fn exponents_fine(t: &[u32], p: usize) -> bool
 }
 
 // The bits of six words, every fourth from place p on, once m is added to each, in one word.
+#[tactic(auto, using(crate::proofs::Ors::ors_none, crate::proofs::Ors::ors_next), unfolding(crate::specs::Shown::raised))]
 fn fourths(t: &[u32], p: usize, m: u32) -> u32
     requires { p + 21 ≤ length t.now }
     ensures { result ≡ ors (raised t.now m p) 6 }
 {
-    wrapping_add_u32(t[p], m)
-        | wrapping_add_u32(t[p + 4], m)
-        | wrapping_add_u32(t[p + 8], m)
-        | wrapping_add_u32(t[p + 12], m)
-        | wrapping_add_u32(t[p + 16], m)
-        | wrapping_add_u32(t[p + 20], m)
+    let mut bits: u32 = 0;
+    for j in 0..6 {
+        bits = bits | t[p + 4 * j].wrapping_add(m);
+    }
+    bits
 }
 
 // Whether the exponents of n kinds, all of them there, are whole numbers in their range, given or not. A numerator is in its range where 32,768 more

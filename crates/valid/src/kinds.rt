@@ -4,7 +4,7 @@ ghost use Rattle.laws.specs.Ranges.{all};
 ghost use Rattle.rules.specs.Table as T;
 
 use crate::exponents::{all_whole, exponents_fine};
-use crate::marks::{all_marks, link_fine, marks_fine, marks_within};
+use crate::marks::{all_marks, link_fine, marks_fine};
 use table::{KIND, KINDS, word};
 
 // The counts, and the dimensionless and the time kind.
@@ -16,19 +16,13 @@ pub(crate) fn head_fine(t: &[u32]) -> bool
     (n <= 240) & (word(t, 1) <= 400) & link_fine(word(t, 2), n) & link_fine(word(t, 3), n)
 }
 
-// Kind k. Its marks are tested in two forms, for words that are all there and for others: words are lent, of any length.
+// Kind k, whose words may be missing: they are lent, of any length.
 #[tactic(auto, using(crate::proofs::Ands::ands), unfolding(rules::specs::Table::kind_fine))]
 fn kind_fine(t: &[u32], k: usize) -> bool
     requires { k < 240 }
     ensures { result ≡ T.kind_fine t.now k }
 {
     let p = KINDS + KIND * k;
-    if p + 32 <= t.len() {
-        if !marks_within(t, p) {
-            return false;
-        }
-        return exponents_fine(t, p);
-    }
     if !marks_fine(t, p) {
         return false;
     }
@@ -49,7 +43,9 @@ fn each_fine(t: &[u32], n: usize) -> bool
 }
 
 // Where all exponents are whole numbers, nothing but the marks is left to test: some 42 instructions a kind, exponents and marks together. It needs the
-// words to be there; each kind by itself is for the rest, since words are lent, of any length.
+// words to be there; each kind by itself is for the rest, since words are lent, of any length. With `each_fine` alone a call over the largest catalog
+// takes some 17,000 instructions more, where a lone product takes 25,900 in all.
+#[tactic(auto, using(crate::proofs::Wholly::marks_left))]
 pub(crate) fn kinds_fine(t: &[u32], n: usize) -> bool
     requires { n ≤ 240 }
     ensures { result ≡ all (T.kind_fine t.now) n }

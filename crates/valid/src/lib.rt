@@ -12,9 +12,9 @@ ghost use Rattle.rules.specs.Table as T;
 
 use crate::kinds::{head_fine, kinds_fine};
 use crate::rows::rows_fine;
-use table::{ROWS, word};
+use table::{ROW, ROWS, word};
 
-// Whether the words are a table. The counts come first, so that no more is read than a table has.
+// Whether the words are a table. The counts come first, so that no more is read than a table has. They go by `as`, as no `From` takes 32 bits to an index.
 #[tactic(auto, using(crate::proofs::Tables::tables, crate::proofs::Tables::few_told))]
 pub fn is_table(t: &[u32]) -> bool
     ensures { result ≡ T.is_table t.now }
@@ -34,8 +34,8 @@ pub fn are_rows(t: &[u32], rows: &[u32]) -> bool
     ensures { result ≡ T.are_rows t.now rows.now }
 {
     let n = rows.len();
-    if n % 4 != 0 {
+    if n % ROW != 0 {
         return false;
     }
-    rows_fine(t, rows, 0, n / 4)
+    rows_fine(t, rows, 0, n / ROW)
 }

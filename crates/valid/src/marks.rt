@@ -1,4 +1,5 @@
-// Flag, grade, role and links, in their ranges, of a kind and of all kinds.
+// Flag, grade, role and links, in their ranges, of a kind and of all kinds. Flag and role are the table's own numbers: a caller lends words, and what is
+// asked here is whether they are such numbers at all.
 ghost use Rattle.std.specs.Prelude.{◌≡◌, ◌+◌, ◌*◌, ◌<◌, ◌≤◌, ◌||◌, length, if◌then◌else◌, ◌==◌, nat_eq, nat_lt};
 ghost use Rattle.laws.specs.Ranges.{all};
 ghost use Rattle.rules.specs.Table as T;
@@ -39,7 +40,8 @@ pub(crate) fn marks_fine(t: &[u32], p: usize) -> bool
         & link_fine(word(t, p + RATE), n)
 }
 
-// The word at q is the index of a kind, or none, as most are.
+// The word at q is the index of a kind, or none, as most are, so that is asked first. This and the next are `link_fine` and `role_fine` for words that are
+// there; `marks_within` has what that saves.
 fn link_within(t: &[u32], q: usize) -> bool
     requires { q < length t.now }
     ensures { result ≡ T.link_fine t.now (T.word t.now q) }
@@ -62,9 +64,10 @@ fn role_within(t: &[u32], p: usize) -> bool
     (t[p + ROLE] < 3) & (t[p + DIFFERENCE] == 65535)
 }
 
-// The marks of a kind whose words are all there, so that no place needs a test. Each is read only once those before it are fine.
+// The marks of a kind whose words are all there, so that no place needs a test. Each is read only once those before it are fine. With `marks_fine` alone a
+// call over the largest catalog takes some 3,000 instructions more, where a lone product takes 25,900 in all.
 #[tactic(auto, using(crate::proofs::Marked::marked))]
-pub(crate) fn marks_within(t: &[u32], p: usize) -> bool
+fn marks_within(t: &[u32], p: usize) -> bool
     requires { p + 32 ≤ length t.now }
     ensures { result ≡ T.marks_fine t.now p }
 {

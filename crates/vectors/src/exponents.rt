@@ -5,32 +5,28 @@ ghost use Rattle.rules.specs.Bytes.{le4};
 ghost use Rattle.dimension.specs.Fraction.{answer};
 ghost use Rattle.vectors.specs.ExponentRecords as R;
 
+use crate::walk;
 use dimension::{Dimensions, Rational};
 use numbers::u32_at;
-use slices::{after, front};
+use slices::after;
 use std::io;
-use stored::{Tally, UNREADABLE, dimensions, exponent};
+use stored::{Part, Tally, UNREADABLE, dimensions, exponent};
 
 const GROUP: u32 = 1;
 
-// Whether an answer is the stored one, numerator and denominator. By `equals`: `==` of an Option of a derived type left its goals open.
+// Whether an answer is the stored one, numerator and denominator. By `==` of two Options it was proved too, with a law of 41 lines, and is no plainer.
 fn is(found: Option<Rational>, stored: Rational) -> bool
     ensures { result ≡ true → found ≡ Some stored }
 {
-    match found {
-        Some(r) => r.equals(stored),
-        None => false,
-    }
+    found.is_some_and(|r| r == stored)
 }
 
-// Whether an answer is the stored one in all twelve bases.
+// Whether an answer is the stored one in all twelve bases. One function with `is` would compare both by `==`: of `Dimensions` that was tried, and its goal
+// stayed open.
 fn are(found: Option<Dimensions>, stored: Dimensions) -> bool
     ensures { result ≡ true → found ≡ Some stored }
 {
-    match found {
-        Some(d) => d.equals(stored),
-        None => false,
-    }
+    found.is_some_and(|d| d.equals(stored))
 }
 
 // What a record asks: the first four of exponents, the others of dimensions.
@@ -45,7 +41,7 @@ enum Operation {
     Power,
 }
 
-// The operation that a record begins with, by its number; none if there is no such operation.
+// The operation that a record begins with, by its number; none if there is no such operation. No `TryFrom`: there is no error to tell.
 #[tactic(auto, unfolding(crate::specs::ExponentRecords::number))]
 fn operation_of(s: &[u8]) -> Option<Operation>
     ensures { IfSome result (λ o. R.number o ≡ le4 s.now 0) }
@@ -100,44 +96,36 @@ fn agrees(s: &[u8], operation: Operation) -> bool
     }
 }
 
-// How many of the records agree; none if they don't end with the file.
-fn agreed(s: &[u8], records: u32) -> u32
-    ensures { result ≤ records }
+// The record that s begins with, which is one request; none if there is no such operation.
+fn record(s: &[u8]) -> Option<Part>
+    ensures { IfSome result (λ p. p.agreed ≤ 1) }
 {
-    let mut rest = s;
-    let mut count: u32 = 0; // counts what agrees, not the turns
-    for _i in 0..records {
-        let Some(operation) = operation_of(rest) else {
-            return 0;
-        };
-        let Some(next) = rest.get(size(operation)..) else {
-            return 0;
-        };
-        if agrees(rest, operation) {
-            count += 1;
-        }
-        rest = next;
-    }
-    if rest.is_empty() { count } else { 0 }
+    let operation = operation_of(s)?;
+    Some(Part {
+        agreed: u32::from(agrees(s, operation)),
+        size: size(operation),
+    })
+}
+
+// How many of the records agree; none if they don't end with the file.
+fn agreed(s: &[u8], records: u32) -> Option<u32>
+    ensures { IfSome result (λ c. c ≤ records) }
+{
+    walk::agreed(s, records, record)
 }
 
 // A record is a request, so the header's two counts are one number.
 fn counted(s: &[u8]) -> Tally {
-    if !stored::is_group(s, GROUP) {
-        return UNREADABLE;
-    }
     let requests = u32_at(s, 12);
     if u32_at(s, 8) != requests {
         return UNREADABLE;
     }
     Tally {
-        agreed: agreed(after(s, 16), requests),
-        requests: requests,
+        agreed: agreed(after(s, 16), requests).unwrap_or(0),
+        requests,
     }
 }
 
 pub(crate) fn replayed(rt: &HostRuntime) -> io::Result<Tally> {
-    let mut buffer = stored::room();
-    let n = stored::read(rt, "exponents.bin", &mut buffer)?;
-    Ok(counted(front(&buffer, n)))
+    walk::replayed(rt, "exponents.bin", GROUP, counted)
 }

@@ -1,40 +1,49 @@
 // The group `images`: an image with one byte changed, the sum of its block set right or not, cut to a length, and what it is refused for. A section
 // is an image and its requests; a request is 20 bytes: the length, the changed byte's place and value, whether the sum is set right, and then the
-// refusal's number (0 for none), place and value.
+// refusal's number (0 for none), place and value. Between `u32` and `usize` there is no `From`, and a `try_from` would ask what can't fail: hence `as`.
 ghost use Rattle.std.specs.Prelude.{◌≡◌, ◌≤◌};
 ghost use Rattle.vectors.specs.ImageRequests.{refusal_as, told_as};
 
+use crate::walk;
 use error::{Fault, say};
 use numbers::{byte_at, u16_at, u32_at};
-use slices::{after, front, part};
+use slices::{after, front};
 use std::io;
-use stored::{Tally, UNREADABLE};
+use stored::{LONGEST, Part, Tally};
 
 const GROUP: u32 = 5;
-
-// One block more than an image can have.
-const LONGEST: usize = 62464;
 
 // The bytes of a block: 508, and their sum in four more.
 const BLOCK: usize = 512;
 
 const REQUEST: usize = 20;
 
-fn refuses(fault: Fault, number: u32, place: u32, value: u32) -> bool
-    ensures { result ≡ refusal_as fault number place value }
+// What a request tells of the answer: a refusal's number as the file has it, 0 for none, its place and its first value. No Option:
+// `told_as` speaks of the file's own number, so a law would be needed that no refusal has the number 0.
+#[derive(Clone, Copy)]
+struct Told {
+    number: u32,
+    place: u32,
+    value: u32,
+}
+
+fn refuses(fault: Fault, told: Told) -> bool
+    ensures { result ≡ refusal_as fault told.number told.place told.value }
 {
     let said = say(fault.error);
-    (said.number == number) & (fault.place == place as usize) & (said.values[0] == value as usize)
+    (said.number == told.number)
+        & (fault.place == told.place as usize)
+        & (said.values[0] == told.value as usize)
 }
 
 // Whether an answer is this refusal, or that there is none.
 #[tactic(auto, unfolding(crate::specs::ImageRequests::told_as))]
-fn is(answer: Result<(), Fault>, number: u32, place: u32, value: u32) -> bool
-    ensures { result ≡ told_as answer number place value }
+fn is(answer: Result<(), Fault>, told: Told) -> bool
+    ensures { result ≡ told_as answer told.number told.place told.value }
 {
     match answer {
-        Ok(()) => number == 0,
-        Err(fault) => refuses(fault, number, place, value),
+        Ok(()) => told.number == 0,
+        Err(fault) => refuses(fault, told),
     }
 }
 
@@ -42,7 +51,7 @@ fn is(answer: Result<(), Fault>, number: u32, place: u32, value: u32) -> bool
 fn sum(block: &[u8]) -> u32 {
     let mut total: u32 = 0;
     for i in 0..508 {
-        total += (i as u32 + 1) * byte_at(block, i) as u32;
+        total += (i as u32 + 1) * u32::from(byte_at(block, i));
     }
     total
 }
@@ -81,66 +90,51 @@ fn agrees(request: &[u8], image: &mut [u8]) -> bool {
     if let Some(block) = image.get_mut(start..start + BLOCK) {
         block.copy_from_slice(&kept);
     }
-    is(
-        answer,
-        byte_at(request, 10) as u32,
-        u32_at(request, 12),
-        u32_at(request, 16),
-    )
+    let told = Told {
+        number: u32::from(byte_at(request, 10)),
+        place: u32_at(request, 12),
+        value: u32_at(request, 16),
+    };
+    is(answer, told)
 }
 
-// How many of n requests agree.
-fn agreed(requests: &[u8], n: u16, image: &mut [u8]) -> u32
+// How many of n requests of an image agree.
+fn agreed_in(requests: &[u8], n: u16, image: &mut [u8]) -> u32
     ensures { result ≤ n }
 {
-    let mut count: u32 = 0; // counts what agrees, not the turns
+    // No chain that counts: its closure would hold the image, which each request writes.
+    let mut count: u32 = 0;
     for i in 0..n {
-        if agrees(after(requests, REQUEST * i as usize), image) {
+        if agrees(after(requests, REQUEST * usize::from(i)), image) {
             count += 1;
         }
     }
     count
 }
 
-// The bytes of the section that s begins with.
-fn section_size(s: &[u8]) -> usize {
-    12 + u32_at(s, 4) as usize + REQUEST * u16_at(s, 8) as usize
-}
-
-fn section(s: &[u8], image: &mut [u8]) -> u32 {
-    let size = u32_at(s, 4) as usize;
-    stored::unpack(part(s, 12, size), image);
-    agreed(after(s, 12 + size), u16_at(s, 8), image)
-}
-
-// How many requests of n sections agree; none if the sections don't end with the file. `replay` has a walk of its own: one public function for both,
-// with a closure, was written and proved, and of what a closure counts it can promise a bound alone.
-fn agreed_in(s: &[u8], n: u32, image: &mut [u8]) -> u32 {
-    let mut rest = s;
-    let mut count: u32 = 0;
-    for _i in 0..n {
-        count = count.saturating_add(section(rest, image));
-        let Some(next) = rest.get(section_size(rest)..) else {
-            return 0;
-        };
-        rest = next;
+// The section that s begins with.
+fn section(s: &[u8], image: &mut [u8]) -> Part {
+    let requests = u16_at(s, 8);
+    let start = stored::unpack_section(s, image);
+    Part {
+        agreed: agreed_in(after(s, start), requests, image),
+        size: start + REQUEST * usize::from(requests),
     }
-    if rest.is_empty() { count } else { 0 }
 }
 
 fn counted(s: &[u8]) -> Tally {
-    if !stored::is_group(s, GROUP) {
-        return UNREADABLE;
-    }
     let mut image = [0u8; LONGEST];
+    let agreed = walk::agreed(
+        after(s, 16),
+        u32_at(s, 8),
+        |rest| Some(section(rest, &mut image)),
+    );
     Tally {
-        agreed: agreed_in(after(s, 16), u32_at(s, 8), &mut image),
+        agreed: agreed.unwrap_or(0),
         requests: u32_at(s, 12),
     }
 }
 
 pub(crate) fn replayed(rt: &HostRuntime) -> io::Result<Tally> {
-    let mut buffer = stored::room();
-    let n = stored::read(rt, "images.bin", &mut buffer)?;
-    Ok(counted(front(&buffer, n)))
+    walk::replayed(rt, "images.bin", GROUP, counted)
 }

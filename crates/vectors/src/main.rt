@@ -4,6 +4,7 @@
 
 mod exponents;
 mod images;
+mod walk;
 
 use std::io;
 

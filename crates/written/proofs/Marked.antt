@@ -1,14 +1,16 @@
 -- A kind's marks and words, by its links. Assumes nothing.
-use Prim.Native.Nat.{ℕ, ◌/◌, ◌≤◌}
+use Prim.Native.Nat.{ℕ, zero, suc, ◌/◌, ◌<◌, ◌≤◌}
 use mathlib.Core.Path.{◌≡◌, refl, sym, ◌∙◌, ap}
-use mathlib.Core.List.{List}
+use mathlib.Core.List.{List, [], ◌∷◌}
 use native.Mathlib.Omega.{arith}
 use lib.ListN.{length, get_or, take, replicate, length-append}
 use borrow.Rule.Slice.PartMut.{put_mid}
 use Rattle.std.proofs.lemmas.Slice.{put_mid-paste}
 use lib.Seq.{take_all}
 use Rattle.laws.specs.Options.{found}
+use Rattle.dimension.specs.Fraction as F
 use Rattle.dimension.specs.Dimension as D
+use Rattle.dimension.specs.declared.rational.Rational.{Rational}
 use Rattle.dimension.specs.declared.dimensions.Dimensions.{Dimensions}
 use Rattle.rules.specs.Catalog.{Kind, kind_at, kind_from}
 use Rattle.rules.specs.Table.{exponent_word}
@@ -17,6 +19,15 @@ use Rattle.table.specs.Shown.{exponents_of}
 use Rattle.written.specs.declared.links.Links.{Links}
 use Rattle.written.specs.Shown.{marks_by, kind_by, kind_in, no_links}
 use Rattle.written.proofs.Pasted.{two_parts}
+
+-- ---- an exponent read from an array, whatever stands for one past its end
+get_d_any : (l : List Rational) (i : ℕ) (y z : Rational) → i < length l → get_or l i y ≡ get_or l i z
+get_d_any [] i y z h = absurd (omega arith)
+get_d_any (x ∷ l) zero y z h = refl
+get_d_any (x ∷ l) (suc i) y z h = get_d_any l i y z (omega arith)
+
+pub exponent_at_law : (d : Dimensions) (i : ℕ) (x z : Rational) {v : ℕ} → length d.powers ≡ 12 → i < 24 → x ≡ get_or d.powers (i / 2) z → v ≡ exponent_word x i → v ≡ exponent_word (D.exponent d (i / 2)) i
+exponent_at_law d i x z l h q e = rw (get_d_any d.powers (i / 2) F.zero z (omega arith), ← q) e
 
 -- ---- the 32 words of a kind
 pub exponents_length : (d : Dimensions) → length (exponents_of d) ≡ 24

@@ -5,10 +5,9 @@ ghost use Rattle.rules.specs.Layout as layout;
 ghost use Rattle.rules.specs.Catalog.{catalog_in};
 ghost use Rattle.written.specs.Shown.{flat, kind_in, kinds_word, no_links};
 
-use crate::keyed::Keyed;
 use crate::links::{Links, NO_LINKS, list_links};
 use crate::marks::kind_words;
-use catalog::{kind_count, kind_place};
+use catalog::{KeyedImage, kind_count, kind_place};
 use table::KIND;
 
 // Writes the words of the first n kinds in front of t, by the list of their links.
@@ -19,14 +18,14 @@ fn kinds_by(image: &[u8], n: u16, links: &[Links], t: &mut [u32])
     ensures { t.new ≡ overlay (flat (kind_in image.now links.now) n) t.old }
 {
     for k in 0..n {
-        let i = k as usize;
+        let i = usize::from(k);
         let w = kind_words(image, kind_place(k), links[i]);
         t[KIND * i..KIND * i + KIND].copy_from_slice(&w);
     }
 }
 
 // Writes them by a list that is made in these links.
-fn kinds_in(keyed: Keyed, links: &mut [Links], t: &mut [u32])
+fn kinds_in(keyed: KeyedImage, links: &mut [Links], t: &mut [u32])
     requires links_value { links.old ≡ replicate (length links.old) no_links }
     requires image_bound { layout.kind_count keyed.image.now ≤ length links.old }
     requires image_in_bounds { 32 * layout.kind_count keyed.image.now ≤ length t.old }
@@ -36,8 +35,9 @@ fn kinds_in(keyed: Keyed, links: &mut [Links], t: &mut [u32])
     kinds_by(keyed.image, kind_count(keyed.image), links, t);
 }
 
-// Writes the words of the kinds that an image declares, by their keys. The list of up to 60 kinds is a small one, so that fewer words are made.
-pub(crate) fn kinds_words(keyed: Keyed, t: &mut [u32])
+// Writes the words of the kinds that an image declares, by their keys. The list of up to 60 kinds is a small one, so that a
+// compilation of so few makes a quarter of it.
+pub(crate) fn kinds_words(keyed: KeyedImage, t: &mut [u32])
     requires { 32 * layout.kind_count keyed.image.now ≤ length t.old }
     ensures { t.new ≡ overlay (tab (kinds_word (catalog_in keyed.entry.image.now)) (32 * layout.kind_count keyed.entry.image.now)) t.old }
 {

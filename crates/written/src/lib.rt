@@ -2,7 +2,6 @@
 // else about links is read from the lists; a compilation reads those of the rows too.
 #![tactic(auto)]
 
-mod keyed;
 mod kinds;
 mod links;
 mod marks;

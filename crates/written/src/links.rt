@@ -5,8 +5,7 @@ ghost use Rattle.rules.specs.Layout as layout;
 ghost use Rattle.rules.specs.Table.{index_word};
 ghost use Rattle.written.specs.Shown.{links_by, no_links};
 
-use crate::keyed::Keyed;
-use catalog::{kind_count, kind_place};
+use catalog::{KeyedImage, kind_count, kind_place};
 
 // What is listed of a kind: its difference, the kind that it is the rate of, the first kind that names it as a difference, and the first that is its rate.
 #[derive(Clone, Copy)]
@@ -32,7 +31,7 @@ pub(crate) fn index_word(link: Option<u16>) -> u16
 }
 
 // Lists the links of all kinds, with nothing past the last. A kind that an id names may come before or after.
-pub(crate) fn list_links(keyed: Keyed, links: &mut [Links])
+pub(crate) fn list_links(keyed: KeyedImage, links: &mut [Links])
     requires links_value { links.old ≡ replicate (length links.old) no_links }
     requires image_bound { layout.kind_count keyed.image.now ≤ length links.old }
     ensures { links.new ≡ tab (links_by keyed.entry.image.now (layout.kind_count keyed.entry.image.now)) (length links.old) }
@@ -41,13 +40,16 @@ pub(crate) fn list_links(keyed: Keyed, links: &mut [Links])
         let p = kind_place(k);
         let difference = keyed.link(p + 32);
         let target = keyed.link(p + 64);
-        links[k as usize].difference = difference;
-        links[k as usize].target = target;
+        let i = usize::from(k);
+        links[i].difference = difference;
+        links[i].target = target;
         if let Some(d) = difference {
-            links[d as usize].named = links[d as usize].named.or(Some(k));
+            let j = usize::from(d);
+            links[j].named = links[j].named.or(Some(k));
         }
         if let Some(g) = target {
-            links[g as usize].rate = links[g as usize].rate.or(Some(k));
+            let j = usize::from(g);
+            links[j].rate = links[j].rate.or(Some(k));
         }
     }
 }

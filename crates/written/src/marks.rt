@@ -8,7 +8,8 @@ use crate::links::{Links, index_word};
 use catalog::{dims_at, grade_at, is_given};
 use table::{FLAG, Marks, words_of};
 
-// 1 for a point, which has a difference; 2 for a difference, which a kind names as one; 0 for others.
+// 1 for a point, which has a difference; 2 for a difference, which a kind names as one; 0 for others. A number, since it is a word of the table as it is
+// handed out.
 #[tactic(auto, unfolding(crate::specs::Shown::role_by))]
 fn role(difference: Option<u16>, named: Option<u16>) -> u32
     ensures { result ≡ role_by difference named }
@@ -26,10 +27,7 @@ fn role(difference: Option<u16>, named: Option<u16>) -> u32
 fn flag(image: &[u8], p: u32) -> u32
     ensures { result ≡ cond (is_some (kind_from image.now p).dims) 1 0 }
 {
-    if is_given(image, p) {
-        return 1;
-    }
-    0
+    u32::from(is_given(image, p))
 }
 
 // The last eight words of the kind at p, by its links.
@@ -39,7 +37,7 @@ fn mark_words(image: &[u8], p: u32, links: Links) -> Marks
 {
     table::mark_words(
         flag(image, p),
-        grade_at(image, p) as u32,
+        u32::from(grade_at(image, p)),
         role(links.difference, links.named),
         index_word(links.difference),
         index_word(links.target),

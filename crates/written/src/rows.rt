@@ -1,13 +1,14 @@
 // What the ids of rows name, and the rows in force.
 ghost use Rattle.std.specs.Prelude.{◌≡◌, ◌≤◌, length, take};
 ghost use Rattle.laws.specs.Ranges.{tab, overlay};
+ghost use Rattle.rules.specs.Kinds as K;
 ghost use Rattle.rules.specs.Layout as layout;
 ghost use Rattle.rules.specs.Catalog.{catalog_in, row_from};
 ghost use Rattle.rules.specs.Table.{in_force};
 ghost use Rattle.written.specs.Shown.{entry_words, entries_by, row_named, named_in};
 
-use crate::keyed::Keyed;
-use catalog::{is_commutative, op_at, row_count, row_place};
+use catalog::{KeyedImage, is_commutative, op_at, row_count, row_place};
+use dimension::ProductOp;
 use table::op_word;
 
 // The kinds that the ids of a row name.
@@ -34,7 +35,7 @@ struct Entries {
 
 // What the ids of row i name, 32 bytes each.
 #[tactic(auto, using(crate::proofs::InForce::row_named_law))]
-fn row_named(keyed: Keyed, i: u16) -> Named
+fn row_named(keyed: KeyedImage, i: u16) -> Named
     ensures { result ≡ row_named keyed.entry.image.now i }
 {
     let p = row_place(keyed.image, i);
@@ -46,32 +47,33 @@ fn row_named(keyed: Keyed, i: u16) -> Named
 }
 
 // Writes what the ids of the rows name in front of `named`.
-pub(crate) fn rows_named(keyed: Keyed, named: &mut [Named])
+pub(crate) fn rows_named(keyed: KeyedImage, named: &mut [Named])
     requires { layout.row_count keyed.image.now ≤ length named.old }
     ensures { named.new ≡ overlay (tab (row_named keyed.entry.image.now) (layout.row_count keyed.entry.image.now)) named.old }
 {
     for i in 0..row_count(keyed.image) {
-        named[i as usize] = row_named(keyed, i);
+        named[usize::from(i)] = row_named(keyed, i);
     }
 }
 
 // What a row of these kinds enters; where the turned pair counts too, it follows.
 #[tactic(auto, unfolding(crate::specs::Shown::entry_words))]
-fn entry(l: u16, op: u32, r: u16, k: u16, turned: bool) -> Entries
-    ensures words_value { take result.count result.words ≡ entry_words l op r k turned }
+fn entry(l: u16, op: ProductOp, r: u16, k: u16, turned: bool) -> Entries
+    ensures words_value { take result.count result.words ≡ entry_words l (K.op_word op) r k turned }
     ensures count_bound { (result.count ≤ 8) × (length result.words ≡ 8) }
 {
-    let x = l as u32;
-    let y = r as u32;
-    let z = k as u32;
+    let x = u32::from(l);
+    let y = u32::from(r);
+    let z = u32::from(k);
+    let o = op_word(op);
     if turned {
         return Entries {
-            words: [x, op, y, z, y, op, x, z],
+            words: [x, o, y, z, y, o, x, z],
             count: 8,
         };
     }
     Entries {
-        words: [x, op, y, z, 0, 0, 0, 0],
+        words: [x, o, y, z, 0, 0, 0, 0],
         count: 4,
     }
 }
@@ -84,7 +86,7 @@ fn entries_at(image: &[u8], p: u32, named: Named) -> Entries
 {
     if let (Some(l), Some(r), Some(k)) = (named.left, named.right, named.result) {
         let turned = is_commutative(image, p) & (l != r);
-        return entry(l, op_word(op_at(image, p)), r, k, turned);
+        return entry(l, op_at(image, p), r, k, turned);
     }
     Entries {
         words: [0; 8],
@@ -93,7 +95,8 @@ fn entries_at(image: &[u8], p: u32, named: Named) -> Entries
 }
 
 // Writes the rows in force of an image in front of `words`, in declared order, by what their ids name; how many words these are. They are written in
-// place and counted: there is no heap, and memory is fixed.
+// place and counted: there is no heap, and memory is fixed. That the count is at most 1,600 is said where it is handed on, here and in `whole`: a type for
+// such a count would be opened at each.
 pub(crate) fn rows_words(image: &[u8], named: &[Named], words: &mut [u32]) -> usize
     requires image_bound { layout.row_count image.now ≤ 200 }
     requires named_len { length named.now ≡ 200 }
@@ -105,7 +108,7 @@ pub(crate) fn rows_words(image: &[u8], named: &[Named], words: &mut [u32]) -> us
 {
     let mut used: usize = 0;
     for i in 0..row_count(image) {
-        let e = entries_at(image, row_place(image, i), named[i as usize]);
+        let e = entries_at(image, row_place(image, i), named[usize::from(i)]);
         words[used..used + e.count].copy_from_slice(&e.words[..e.count]);
         used += e.count;
     }

@@ -18,4 +18,4 @@ loop-block-preserved c =
     let l = c.loop-block in
     let a = c.args in
     let e : 16 * l.block + 16 ≡ 16 * (l.block + 1) = omega arith in
-    rw e at (over_next _ _ (16 * l.block) l.invariant (none_there (first_from (key_fits a.keys.now a.key) (16 * l.block) 16) c.any_of_sixteen.ensures (not_then c.if-any_of_sixteen.false)))
+    rw e at (over_next _ _ (16 * l.block) l.invariant (none_there (first_from (key_fits a.keys.now a.key) (16 * l.block) 16) (rw c.from-from.ensures at c.any_of_sixteen.ensures) (not_then c.if-any_of_sixteen.false)))

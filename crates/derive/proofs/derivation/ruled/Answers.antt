@@ -4,4 +4,4 @@ use Rattle.derive.proofs.Derives.{derives}
 use Rattle.derive.proofs.derivation.ruled.Goals as goal
 
 pub returns-in-Some : goal.returns-in-Some
-returns-in-Some c = search (derives, rules)
+returns-in-Some c = rw c.from.ensures (search (derives, rules))

@@ -6,4 +6,4 @@ use Rattle.fitting.proofs.compared.same_exponents.Goals as goal
 
 pub returns-then-p-t : goal.returns-then-p-t
 returns-then-p-t c =
-    c.same_words.ensures ∙ words_same _ _ _ (λ i. omega (arith, c.type_inv.t i)) (λ i. omega (arith, c.type_inv.w i))
+    rw c.from.ensures at (c.same_words.ensures ∙ words_same _ _ _ (λ i. omega (arith, c.type_inv.t i)) (λ i. omega (arith, c.type_inv.w i)))

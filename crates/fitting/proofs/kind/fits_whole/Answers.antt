@@ -11,4 +11,4 @@ returns-then-not-same_exponents c = exponents_differ _ _ _ _ (in_count _ _ c.kin
 
 pub returns : goal.returns
 returns c =
-    marks_say _ _ _ _ (in_count _ _ c.kind_count.ensures c.if-kind_count-k.false) c.same_exponents.ensures (not_else c.if-not-same_exponents.false) (rw (c.word.ensures, c.word-2.ensures, c.word-3.ensures))
+    marks_say _ _ _ _ (in_count _ _ c.kind_count.ensures c.if-kind_count-k.false) c.same_exponents.ensures (not_else c.if-not-same_exponents.false) (rw (c.word.ensures, c.word-2.ensures, c.word-3.ensures, c.from.ensures))

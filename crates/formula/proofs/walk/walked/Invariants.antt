@@ -12,4 +12,4 @@ use Rattle.formula.proofs.walk.walked.Given as goal
 
 abbrev pub invariant-loop-place : goal.invariant-loop-place
 invariant-loop-place l = (l.n ≡ length l.bytes / 12) × (l.depth ≤ 32) × (length l.stack ≡ 32)
-    × (rule.walk (rule.terms (kinds_of l.t) (rows_of l.rows)) (remaining l.bytes l.place) l.place (stack_of l.stack l.depth) ≡ rule.walk (rule.terms (kinds_of l.t) (rows_of l.rows)) (tokens_in l.bytes) 0 [])
+    × (rule.walk (rule.terms (kinds_of l.t) (rows_of l.rows)) (remaining l.bytes l.place-counter) l.place-counter (stack_of l.stack l.depth) ≡ rule.walk (rule.terms (kinds_of l.t) (rows_of l.rows)) (tokens_in l.bytes) 0 [])

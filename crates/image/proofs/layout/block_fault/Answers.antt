@@ -12,12 +12,12 @@ returns-then-b-eq0 c =
 
 pub returns-then-b-k : goal.returns-then-b-k
 returns-then-b-k c =
-    let kinds = c.u16_at-kinds.ensures in
+    let kinds = c.counts-kinds.ensures.kinds in
     rw kinds at (c.records_block_fault.ensures kind_wrong (λ q r e. search rules))
     ∙ (kind_block c.args.s.now c.args.b (omega arith) (rw kinds at c.if-b-k.true))
 
 pub returns : goal.returns
 returns c =
-    let kinds = c.u16_at-kinds.ensures in
-    rw (kinds, c.u16_at-rows.ensures) at (c.records_block_fault-2.ensures row_wrong (λ q r e. search rules))
+    let kinds = c.counts-kinds.ensures.kinds in
+    rw (kinds, c.counts-kinds.ensures.rows) at (c.records_block_fault-2.ensures row_wrong (λ q r e. search rules))
     ∙ (row_block c.args.s.now c.args.b (omega arith) (rw kinds at c.if-b-k.false))

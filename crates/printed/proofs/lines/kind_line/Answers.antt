@@ -10,4 +10,5 @@ use Rattle.printed.proofs.lines.kind_line.Goals as goal
 pub returns : goal.returns
 returns c =
     let f = c.ranges.k in
-    five_parts _ _ _ (omega arith) (twenty _ (omega (arith, f))) (kind_short _ _) c.empty.ensures c.add.ensures c.add_number.ensures c.put.ensures (c.add-2.ensures ∙ ap (added c.put.result) c.kind_part.ensures) c.put-2.ensures
+    let e = c.from.ensures in
+    five_parts _ _ _ (omega arith) (twenty _ (omega (arith, f))) (kind_short _ _) c.empty.ensures c.add.ensures (rw e at c.add_number.ensures) c.put.ensures (c.add-2.ensures ∙ ap (added c.put.result) c.kind_part.ensures) c.put-2.ensures

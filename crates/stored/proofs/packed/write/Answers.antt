@@ -23,4 +23,4 @@ loop-at-preserved-then-left-gt0 c =
 pub loop-at-preserved : goal.loop-at-preserved
 loop-at-preserved c =
     let l = c.loop-at in
-    (search rules, search rules, l.invariant.2, U.pair_to_come l.zeros _ l.from l.left (search rules) (search rules) (search rules) c.byte_at-zeros.ensures c.byte_at-left.ensures l.invariant.3)
+    (search rules, search rules, l.invariant.2, U.pair_to_come l.zeros _ l.from l.left (search rules) (search rules) (search rules) (search rules) (search rules) l.invariant.3)

@@ -1,7 +1,8 @@
 -- `vectors::exponents::are` meets its contract.
-use mathlib.Core.Path.{sym, ◌∙◌}
+use borrow.Author.Rules.{rules}
 use Rattle.dimension.proofs.DimensionLaws.{equal_same}
+use Rattle.vectors.proofs.Found.{found_stored}
 use Rattle.vectors.proofs.exponents.are.Goals as goal
 
-pub returns-in-Some : goal.returns-in-Some
-returns-in-Some c t = let e = equal_same _ _ (sym c.equals.ensures ∙ t) in cc
+pub returns : goal.returns
+returns c = found_stored c.args.found c.args.stored c.is_some_and.ensures (λ x p t. equal_same x c.args.stored (search (p, t, rules)))

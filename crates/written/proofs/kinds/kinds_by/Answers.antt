@@ -16,7 +16,7 @@ loop-k-preserved c =
     let l = c.loop-k in
     let a = c.args in
     let w = c.kind_words-w.result in
-    let k = kind_listed a.image.now a.links.now l.k c.kind_place.ensures c.kind_words-w.ensures in
+    let k = kind_listed a.image.now a.links.now l.k c.kind_place.ensures (rw c.from-i.ensures at c.kind_words-w.ensures) in
     let p = put_mid-paste (32 * l.k) (32 * l.k + 32 - 32 * l.k) l.t c.copy_from_slice.new.self w 32 c.copy_from_slice.ensures.after (omega arith) (omega arith) in
     let t = flat_turn _ l.k (32 * l.k) 32 (length a.t.now) _ w p l.invariant.2 l.invariant.1 l.invariant.0 (omega (arith, c.requires.n_in_bounds)) k.0 k.1 in
-    (t.0, omega (arith, t.1), t.2)
+    rw c.from-i.ensures (t.0, omega (arith, t.1), t.2)

@@ -13,33 +13,33 @@ use Rattle.written.proofs.links.list_links.Goals.{in-Some, in_default, in-Some-t
 pub loop-k-init : goal.loop-k-init
 loop-k-init c = (refl, c.requires.links_value ∙ none_listed _ _)
 
-pub bounds-links-d : goal.bounds-links-d
-bounds-links-d c =
+pub bounds-links-j : goal.bounds-links-j
+bounds-links-j c =
     let l = listed_below _ (length c.args.links.now) _ c.requires.image_bound c.link-difference.ensures c.in-Some.is in
-    simp length-set (rw c.loop-k.invariant.0 l)
+    rw c.from-j.ensures (simp length-set (rw c.loop-k.invariant.0 l))
 
-pub bounds-links-d-in-Some : goal.bounds-links-d-in-Some
-bounds-links-d-in-Some c =
+pub bounds-links-j-in-Some : goal.bounds-links-j-in-Some
+bounds-links-j-in-Some c =
     let l = listed_below _ (length c.args.links.now) _ c.requires.image_bound c.link-difference.ensures c.in-Some.is in
-    simp length-set (rw c.loop-k.invariant.0 l)
+    rw c.from-j.ensures (simp length-set (rw c.loop-k.invariant.0 l))
 
-pub bounds-links-g : goal.bounds-links-g
-bounds-links-g c =
+pub bounds-links-j-in-Some-target : goal.bounds-links-j-in-Some-target
+bounds-links-j-in-Some-target c =
     let l = listed_below _ (length c.args.links.now) _ c.requires.image_bound c.link-target.ensures c.in-Some-target.is in
     let e : length c.match-difference.links ≡ length c.args.links.now = elim c.match-difference.branch [
       | in-Some w ↦ ap length w.links-is ∙ simp length-set c.loop-k.invariant.0
       | in_default w ↦ ap length w.links-is ∙ simp length-set c.loop-k.invariant.0
     ] in
-    rw e l
+    rw c.from-j-in-Some-target.ensures (rw e l)
 
-pub bounds-links-g-in-Some-target : goal.bounds-links-g-in-Some-target
-bounds-links-g-in-Some-target c =
+pub bounds-links-j-in-Some-target-2 : goal.bounds-links-j-in-Some-target-2
+bounds-links-j-in-Some-target-2 c =
     let l = listed_below _ (length c.args.links.now) _ c.requires.image_bound c.link-target.ensures c.in-Some-target.is in
     let e : length c.match-difference.links ≡ length c.args.links.now = elim c.match-difference.branch [
       | in-Some w ↦ ap length w.links-is ∙ simp length-set c.loop-k.invariant.0
       | in_default w ↦ ap length w.links-is ∙ simp length-set c.loop-k.invariant.0
     ] in
-    rw e l
+    rw c.from-j-in-Some-target.ensures (rw e l)
 
 pub loop-k-preserved : goal.loop-k-preserved
 unfolding link_of
@@ -51,11 +51,11 @@ loop-k-preserved c =
     let g : c.link-target.result ≡ link_of s 64 k = c.link-target.ensures ∙ rw c.kind_place-p.ensures in
     let e = put_target s r k (omega arith) (put_difference s r k (omega arith) (c.loop-k.invariant.1 ∙ same_by s r k) d) g in
     let m : c.match-difference.links ≡ tab (partly s r (k + 1) (k + 1) (k + 1) k) r = elim c.match-difference.branch [
-      | in-Some w ↦ w.links-is ∙ put_named s r k w.in-Some.d (listed_below _ _ _ c.requires.image_bound c.link-difference.ensures w.in-Some.is) e (sym d ∙ w.in-Some.is) w.or.ensures
-      | in_default w ↦ w.links-is ∙ e ∙ keep_named s r k (sym d ∙ w.in_default.is)
+      | in-Some w ↦ (rw (w.from-j.ensures, c.from-i.ensures) at w.links-is) ∙ put_named s r k w.in-Some.d (listed_below _ _ _ c.requires.image_bound c.link-difference.ensures w.in-Some.is) e (sym d ∙ w.in-Some.is) (rw (w.from-j.ensures, c.from-i.ensures) at w.or.ensures)
+      | in_default w ↦ (rw c.from-i.ensures at w.links-is) ∙ e ∙ keep_named s r k (sym d ∙ w.in_default.is)
     ] in
     let n : c.match-target.links ≡ tab (partly s r (k + 1) (k + 1) (k + 1) (k + 1)) r = elim c.match-target.branch [
-      | in-Some-target w ↦ w.links-is ∙ put_rate s r k w.in-Some-target.g (listed_below _ _ _ c.requires.image_bound c.link-target.ensures w.in-Some-target.is) m (sym g ∙ w.in-Some-target.is) w.or-in-Some-target.ensures
+      | in-Some-target w ↦ (rw w.from-j-in-Some-target.ensures at w.links-is) ∙ put_rate s r k w.in-Some-target.g (listed_below _ _ _ c.requires.image_bound c.link-target.ensures w.in-Some-target.is) m (sym g ∙ w.in-Some-target.is) (rw w.from-j-in-Some-target.ensures at w.or-in-Some-target.ensures)
       | in_default-target w ↦ w.links-is ∙ m ∙ keep_rate s r k (sym g ∙ w.in_default-target.is)
     ] in
     let e₁ = n ∙ sym (same_by s r (k + 1)) in

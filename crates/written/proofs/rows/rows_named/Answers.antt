@@ -10,4 +10,4 @@ loop-i-init c = (refl, tab_none _ _)
 pub loop-i-preserved : goal.loop-i-preserved
 loop-i-preserved c =
     let l = c.loop-i in
-    (simp length-set l.invariant.0, tab_next _ l.i (length c.args.named.now) _ l.invariant.1 (omega arith) (omega arith) c.row_named.ensures)
+    (simp length-set l.invariant.0, rw c.from.ensures (tab_next _ l.i (length c.args.named.now) _ l.invariant.1 (omega arith) (omega arith) c.row_named.ensures))

@@ -19,7 +19,7 @@ loop-i-preserved c =
     let w = take e.count e.words in
     let m : length w ≡ e.count = length-take-le e.count e.words (omega arith) in
     let p = put_mid-paste l.used (l.used + e.count - l.used) l.words c.copy_from_slice.new.self w e.count c.copy_from_slice.ensures.after (omega arith) (omega arith) in
-    let t = flat_turn _ l.i l.used e.count 1600 _ w p l.invariant.3 l.invariant.2 l.invariant.1 (omega arith) (omega arith) (take_all e.count w (omega arith) ∙ row_entered _ l.i _ c.requires.named_value (omega arith) c.row_place.ensures c.entries_at-e.ensures.words_value) in
+    let t = flat_turn _ l.i l.used e.count 1600 _ w p l.invariant.3 l.invariant.2 l.invariant.1 (omega arith) (omega arith) (take_all e.count w (omega arith) ∙ row_entered _ l.i _ c.requires.named_value (omega arith) c.row_place.ensures (rw c.from.ensures at c.entries_at-e.ensures.words_value)) in
     (omega arith, t.0, t.1, t.2)
 
 pub returns-clause-words_after : goal.returns-clause-words_after

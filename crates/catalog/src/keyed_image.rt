@@ -4,22 +4,22 @@ ghost use Rattle.rules.specs.Layout as layout;
 ghost use Rattle.rules.specs.Catalog.{id_at, catalog_in, find, link};
 ghost use Rattle.catalog.specs.Keys.{keys_in};
 
-use catalog::{find_by, link_by};
+use crate::keys::{find_by, link_by};
 
 // An image of at most 240 kinds, and their keys. That their number is in the type lets the compiler leave out the test for one past the end.
 #[derive(Clone, Copy)]
-pub(crate) struct Keyed<'a> {
-    pub(crate) image: &'a [u8],
-    pub(crate) keys: &'a [u32; 240],
+pub struct KeyedImage<'a> {
+    pub image: &'a [u8],
+    pub keys: &'a [u32; 240],
     ghost own: { keys.now ≡ keys_in image.now },
     ghost few: { layout.kind_count image.now ≤ 240 },
 }
 
-impl<'a> Keyed<'a> {
+impl<'a> KeyedImage<'a> {
     // The first kind of the id at p. As `link`, it is put into its callers: called, it would read what `self` holds from memory.
-    #[tactic(auto, using(catalog::proofs::Keyed::own_find))]
+    #[tactic(auto, using(crate::proofs::Keyed::own_find))]
     #[inline(always)]
-    pub(crate) fn find(self, p: u32) -> Option<u16>
+    pub fn find(self, p: u32) -> Option<u16>
         ensures { result ≡ find (catalog_in self.entry.image.now) (id_at self.entry.image.now p) }
     {
         let keys = self.keys;
@@ -27,9 +27,9 @@ impl<'a> Keyed<'a> {
     }
 
     // The kind that the id at p names, if it is declared.
-    #[tactic(auto, using(catalog::proofs::Keyed::own_link))]
+    #[tactic(auto, using(crate::proofs::Keyed::own_link))]
     #[inline(always)]
-    pub(crate) fn link(self, p: u32) -> Option<u16>
+    pub fn link(self, p: u32) -> Option<u16>
         ensures { result ≡ link (catalog_in self.entry.image.now) (id_at self.entry.image.now p) }
     {
         let keys = self.keys;

@@ -1,6 +1,0 @@
--- `vectors::exponents::agreed` meets its contract. The loop's invariant: no more agree than were looked at.
-use Prim.Native.Nat.{◌≤◌}
-use Rattle.vectors.proofs.exponents.agreed.Given as goal
-
-abbrev pub invariant-loop-i : goal.invariant-loop-i
-invariant-loop-i l = l.count ≤ l._i
