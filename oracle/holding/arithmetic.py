@@ -22,7 +22,7 @@ def bracketed(exponent):
 
 
 def scalar_case(operation, left, right, result):
-    wanted = f"Is {bracketed(result[0])}"
+    wanted = f"Some {bracketed(result[0])}"
     about = f"{operation} {left[0]} {right[0]}"
     if operation == "reduced":
         return Case(f"F.answer {written.integer(left[0][0])} {left[0][1]}", wanted, about)
@@ -32,7 +32,7 @@ def scalar_case(operation, left, right, result):
 def dimensions_case(operation, left, right, result):
     def of(exponents):
         return f"(D.dimensions {written.rationals(exponents)})"
-    wanted, about = f"D.fine {of(result)}", f"{operation} {left} {right}"
+    wanted, about = f"Some {of(result)}", f"{operation} {left} {right}"
     if operation == "dimension power":
         return Case(f"D.power {of(left)} {bracketed(right[0])}", wanted, about)
     return Case(f"{WHOLE[operation]} {of(left)} {of(right)}", wanted, about)
@@ -93,7 +93,7 @@ def grades(_, most):
         for left in range(5):
             for right in range(5):
                 grade = expected.grade_of(place, left, right) if max(left, right) < 4 else None
-                wanted = "Absent" if grade is None else f"Single {grade}"
+                wanted = "no_grade" if grade is None else f"Some {grade}"
                 cases.append(Case(f"dimension-Grade.product {name} {left} {right}", wanted,
                                   f"grades {left} {name} {right}"))
     return sheets_of("Grades", spread(cases, most), 100)

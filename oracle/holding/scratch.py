@@ -51,15 +51,12 @@ class Broken(Exception):
 USED = """use Rattle.std.specs.Prelude.{ℕ, zero, suc, ◌≡◌, Bool, true, false, List, [], ◌∷◌, ◌++◌, map, length, get_or, ℤ, pos, neg_ℤ}
 use mathlib.Core.Path.{refl}
 use mathlib.Core.List.{zip_with}
-use Rattle.std.proofs.Math.Option.{Option, some, none}
+use Rattle.std.specs.declared.option.Option.{Option}
+use Rattle.std.specs.declared.option.Option.TheVariants.{None, Some}
 use Rattle.laws.specs.Out.{Out, given, refused}
 use Rattle.laws.specs.Options.{found}
 use Rattle.dimension.specs.declared.rational.Rational.{Rational}
-use Rattle.dimension.specs.declared.rational.Ratio.{Ratio}
-use Rattle.dimension.specs.declared.rational.Ratio.TheVariants.{Is, Over}
 use Rattle.dimension.specs.declared.dimensions.Dimensions.{Dimensions}
-use Rattle.dimension.specs.declared.dimensions.Outcome.{Outcome}
-use Rattle.dimension.specs.declared.grade.Grade.TheVariants.{Single, Absent}
 use Rattle.dimension.specs.declared.grade.ProductOp.{ProductOp}
 use Rattle.dimension.specs.declared.grade.ProductOp.TheVariants.{Mul, Div, Dot, Wedge}
 use Rattle.rules.specs.Kinds.{Kinds, Rows}
@@ -81,6 +78,10 @@ m n d = F.ratio (neg_ℤ (pos n)) d
 
 abbrev pub o : Rational
 o = F.ratio (pos 0) 1
+
+-- what a product has no single grade for
+abbrev pub no_grade : Option ℕ
+no_grade = None
 
 -- n zeros before what follows
 abbrev pub zeros : ℕ → List ℕ → List ℕ
@@ -104,7 +105,7 @@ abbrev pub one : Option Dimensions → ℕ → Option ℕ → Option ℕ → Opt
 one x g d t r = record { dims = x; grade = g; difference = d; rate_of = t; rate = r }
 
 abbrev pub nobody : One
-nobody = one none 0 none none none
+nobody = one None 0 None None None
 
 abbrev pub these : List One → Option ℕ → Option ℕ → Kinds
 these l o t = record {
@@ -144,13 +145,13 @@ pub data Said : Type 0 where
   compiled : List One → Option ℕ → Option ℕ → List ℕ → List (Option ℕ) → Said
 
 abbrev pub plainly : ℕ → ℕ → List ℕ → Said
-plainly p n vs = refuses p (record { number = n; dims = none; values = vs; twins = [] })
+plainly p n vs = refuses p (record { number = n; dims = None; values = vs; twins = [] })
 
 abbrev pub with_dims : ℕ → ℕ → List Rational → ℕ → Said
-with_dims p n d g = refuses p (record { number = n; dims = some (D.dimensions d); values = g ∷ []; twins = [] })
+with_dims p n d g = refuses p (record { number = n; dims = Some (D.dimensions d); values = g ∷ []; twins = [] })
 
 abbrev pub with_twins : ℕ → ℕ → ℕ → List ℕ → Said
-with_twins p n count ks = refuses p (record { number = n; dims = none; values = count ∷ []; twins = ks })
+with_twins p n count ks = refuses p (record { number = n; dims = None; values = count ∷ []; twins = ks })
 
 -- a product, sum or power by itself has no place: 0 stands for it
 abbrev pub said : Answer ℕ → Said
@@ -171,10 +172,10 @@ abbrev pub looked : Kinds → Rows → ℕ → ℕ → ℕ → Said
 looked K rows code l r = found (rules-Arithmetic.op_by code) (λ op. said (rules-Arithmetic.combine K rows op l r)) number
 
 abbrev pub exactly : Kinds → ℕ → Rational → Said
-exactly K k e = said (rules-Arithmetic.power K 8 k (some e))
+exactly K k e = said (rules-Arithmetic.power K 8 k (Some e))
 
 abbrev pub inexactly : Kinds → ℕ → Said
-inexactly K k = said (rules-Arithmetic.power K 9 k none)
+inexactly K k = said (rules-Arithmetic.power K 9 k None)
 
 -- over lent words: what is said, and the twin list after it
 abbrev pub lent : Placed ℕ → List ℕ → Said × List ℕ

@@ -35,7 +35,7 @@ def zero_run(count):
 
 
 def optional(index):
-    return "none" if index is None else f"(some {index})"
+    return "None" if index is None else f"(Some {index})"
 
 
 def truth(value):
@@ -68,7 +68,7 @@ def all_bases(present):
 
 def dimensions(exponents):
     """Of twelve exponents, or unresolved."""
-    return "none" if exponents is None else f"(some (D.dimensions {rationals(exponents)}))"
+    return "None" if exponents is None else f"(Some (D.dimensions {rationals(exponents)}))"
 
 
 # ---- What the Rust compiled.
@@ -100,10 +100,10 @@ def id_bytes(text):
 def declared_kind(kind):
     """The exponents are reduced as they are read."""
     if kind.exponents is None:
-        dims = "none"
+        dims = "None"
     else:
         fractions = [f"F.lowest {integer(n)} {d}" for n, d in kind.exponents]
-        dims = f"(some (D.dimensions {listed(fractions)}))"
+        dims = f"(Some (D.dimensions {listed(fractions)}))"
     ids = " ".join(id_bytes(text) for text in (kind.id, kind.difference, kind.rate_of))
     return f"declares {ids} {dims} {kind.grade}"
 

@@ -3,18 +3,21 @@ use Prim.Native.Nat.{ℕ}
 use mathlib.Core.Path.{◌≡◌, refl, sym, ◌∙◌, ap, ap₂}
 use mathlib.Core.Bool.{Bool, true, false, true≢false}
 use mathlib.Core.List.{List}
+use native.Mathlib.Omega.{arith}
 use lib.Dec.{eqb}
 use lib.ListN.{length}
+use borrow.Author.Tests.{eq-eqb}
 use Rattle.std.specs.declared.result.Result.TheVariants.{Ok, Err}
 use Rattle.laws.specs.Options.{is_some}
 use Rattle.laws.specs.Out.{given, refused}
 use Rattle.dimension.specs.declared.dimensions.Dimensions.{Dimensions}
 use Rattle.dimension.specs.declared.grade.ProductOp.{ProductOp}
-use Rattle.rules.specs.Kinds.{Rows, Graded}
-use Rattle.rules.specs.Refusal.{Refusal, Placed, told, ImageLength, WrongBlock, Schema, WrongByte, Short, EmptyId, Duplicate, Unknown, AffineDimensionMismatch, NestedAffineSpace, InvalidDimensionlessKind, InvalidTimeKind, NoTimeKind, PointRate, UnresolvedDimensions, RateMismatch, AlsoRateOf, CommutativeQuotient, Point, Ungraded, InvalidOperationRule, DerivedOperationRule, ConflictingOperationRule, PowerOverLimits, NoTable, NoKind, KindMismatch, UnsupportedOperation, UnresolvedTwin, NoProductKind, UngradedPower, NoPowerKind, UnresolvedPowerTwin, NumberTerm, Malformed}
+use Rattle.rules.specs.Kinds.{Rows, Graded, op_word}
+use Rattle.rules.specs.Refusal.{Refusal, Placed, told, code_of, ImageLength, WrongBlock, Schema, WrongByte, Short, EmptyId, Duplicate, Unknown, AffineDimensionMismatch, NestedAffineSpace, InvalidDimensionlessKind, InvalidTimeKind, NoTimeKind, PointRate, UnresolvedDimensions, RateMismatch, AlsoRateOf, CommutativeQuotient, Point, Ungraded, InvalidOperationRule, DerivedOperationRule, ConflictingOperationRule, PowerOverLimits, NoTable, NoKind, KindMismatch, UnsupportedOperation, UnresolvedTwin, NoProductKind, UngradedPower, NoPowerKind, UnresolvedPowerTwin, NumberTerm, Malformed}
 use Rattle.rules.specs.Formula as rule
 use Rattle.guarantees.specs.Larger.{lifts}
 use Rattle.guarantees.specs.Calls as by_rules
+use Rattle.guarantees.proofs.RowRules.{same_op_law}
 use Rattle.error.specs.Shown.{error_of, fault, fault_of, said_of}
 use Rattle.error.specs.declared.cause.Error.{Error}
 use Rattle.error.specs.declared.cause.Error.TheVariants as code
@@ -91,16 +94,22 @@ apart x e n p q r t =
     let w : eqb n n ≡ false = rw z at r in
     true≢false (sym t ∙ w)
 
+code_one : (a b : ProductOp) → code_of a ≡ code_of b → a ≡ b
+code_one a b e = same_op_law a b (eq-eqb (op_word a) (op_word b) (omega arith))
+
 -- 44
-pub twin_given : (x : Refusal) (l : ℕ) (op : ProductOp) (r n : ℕ) → error_of x ≡ code.UnresolvedTwin l op r n → (ks : List ℕ) × (x ≡ UnresolvedTwin l op r ks)
+pub twin_given : (x : Refusal) (l : ℕ) (op : ProductOp) (r n : ℕ) → error_of x ≡ code.UnresolvedTwin l (code_of op) r n → (ks : List ℕ) × (x ≡ UnresolvedTwin l op r ks)
 unfolding said_of
 twin_given x l op r n e = go (which x)
   where
     go : Which x → (ks : List ℕ) × (x ≡ UnresolvedTwin l op r ks)
     go (twin a o b ks p) =
-        let z : code.UnresolvedTwin a o b (length ks) ≡ code.UnresolvedTwin l op r n = rw p at e in
-        (ks, p ∙ cc)
-    go (no_product y p) = let z : code.NoProductKind y.dims y.grade ≡ code.UnresolvedTwin l op r n = rw p at e in let w : true ≡ false = cc in absurd (true≢false w)
+        let z : code.UnresolvedTwin a (code_of o) b (length ks) ≡ code.UnresolvedTwin l (code_of op) r n = rw p at e in
+        let u : a ≡ l = cc in
+        let v : code_of o ≡ code_of op = cc in
+        let w : b ≡ r = cc in
+        (ks, p ∙ rw (u, code_one o op v, w))
+    go (no_product y p) = let z : code.NoProductKind y.dims y.grade ≡ code.UnresolvedTwin l (code_of op) r n = rw p at e in let w : true ≡ false = cc in absurd (true≢false w)
     go (other p q f) = absurd (apart x _ 44 e refl p refl)
 
 -- a refusal that rows do not lift
@@ -125,7 +134,7 @@ no_kind_given m p y e = at (error_given m p _ e)
     at (x, q, h) = q ∙ ap (λ (z : Refusal). refused (by_rules.fault p z)) (go (which x))
       where
         go : Which x → x ≡ NoProductKind y
-        go (twin l op r ks u) = let z : code.UnresolvedTwin l op r (length ks) ≡ code.NoProductKind y.dims y.grade = rw u at h in let w : true ≡ false = cc in absurd (true≢false w)
+        go (twin l op r ks u) = let z : code.UnresolvedTwin l (code_of op) r (length ks) ≡ code.NoProductKind y.dims y.grade = rw u at h in let w : true ≡ false = cc in absurd (true≢false w)
         go (no_product g u) =
             let z : code.NoProductKind g.dims g.grade ≡ code.NoProductKind y.dims y.grade = rw u at h in
             let d : g.dims ≡ y.dims = cc in

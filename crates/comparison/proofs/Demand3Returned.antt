@@ -9,7 +9,7 @@ use Rattle.laws.specs.Options.{is_some}
 use Rattle.laws.specs.Out.{given, refused}
 use Rattle.dimension.specs.declared.grade.ProductOp.{ProductOp}
 use Rattle.rules.specs.Kinds.{Kinds, Rows}
-use Rattle.rules.specs.Refusal.{Refusal, Placed, twins_after}
+use Rattle.rules.specs.Refusal.{Refusal, Placed, twins_after, code_of}
 use Rattle.rules.specs.Compile.{Compiled}
 use Rattle.rules.specs.Formula as rule
 use Rattle.rules.specs.Image.{compile_image}
@@ -33,7 +33,7 @@ module _ (c d : Compiled) (bytes : List ℕ) (m n : Placed rule.Term) (kept : Ca
   past_same p (given x) = refl
   past_same p (refused f) = refl
 
-  lifted : (p l : ℕ) (op : ProductOp) (r k : ℕ) → termed m ≡ Err (fault p (code.UnresolvedTwin l op r k)) → past_place p (termed n) ≡ is_some (d.rows l op r)
+  lifted : (p l : ℕ) (op : ProductOp) (r k : ℕ) → termed m ≡ Err (fault p (code.UnresolvedTwin l (code_of op) r k)) → past_place p (termed n) ≡ is_some (d.rows l op r)
   lifted p l op r k e =
       let f = error_given m p _ e in
       let t = twin_given f.0 l op r k f.2 in

@@ -45,7 +45,7 @@ module _ (r : Both) (e : r ≡ both_of image larger_image area_by_bore) where
   unfolding both_of
   small_is = ap (λ (b : Both). b.small) e ∙ run_is image area_by_bore compiled met.compiles
 
-  pub twins_returned : both.small.answer ≡ Err (fault 2 (UnresolvedTwin 6 Mul 7 2))
+  pub twins_returned : both.small.answer ≡ Err (fault 2 (UnresolvedTwin 6 4 7 2))
   unfolding termed
   twins_returned =
       let z : r.small ≡ Ok both.small = both.ran_small in

@@ -7,6 +7,7 @@ use Rattle.laws.specs.Options.{is_some}
 use Rattle.laws.specs.Out.{given}
 use Rattle.dimension.specs.declared.grade.ProductOp.{ProductOp}
 use Rattle.rules.specs.Kinds.{Kinds, Rows, Graded}
+use Rattle.rules.specs.Refusal.{code_of}
 use Rattle.rules.specs.Catalog.{catalog_in}
 use Rattle.rules.specs.Compile.{Compiled}
 use Rattle.rules.specs.Image.{compile_image}
@@ -45,7 +46,7 @@ pub record Lifted (rows : Rows) (e : Error) : Type 0 where
   pub op : ProductOp
   pub right : ℕ
   pub count : ℕ
-  pub is_twin : e ≡ UnresolvedTwin left op right count
+  pub is_twin : e ≡ UnresolvedTwin left (code_of op) right count
   pub has_row : is_some (rows left op right) ≡ true
 
 -- the answer is past token p: it is none of a refusal, or one at a later place
@@ -77,7 +78,7 @@ pub record Demand3Returned (c d : Compiled) (bytes : List ℕ) (r : Both) : Type
   pub kind_calculated : (k : ℕ) → small.answer ≡ Ok (Kind k) → rule.calculation c.kinds (tokens_in bytes) ≡ rule.answered (rule.meaning c.kinds (rule.Kind k))
   pub number_calculated : small.answer ≡ Ok Number → rule.calculation c.kinds (tokens_in bytes) ≡ rule.answered (rule.meaning c.kinds rule.Number)
   -- "An "unresolved twin" is lifted at its token exactly when the larger catalog has a row for that very left, operation and right"
-  pub lifted : (p l : ℕ) (op : ProductOp) (m n : ℕ) → small.answer ≡ Err (fault p (UnresolvedTwin l op m n)) → past_place p large.answer ≡ is_some (d.rows l op m)
+  pub lifted : (p l : ℕ) (op : ProductOp) (m n : ℕ) → small.answer ≡ Err (fault p (UnresolvedTwin l (code_of op) m n)) → past_place p large.answer ≡ is_some (d.rows l op m)
   -- "otherwise it stays as it was, like every other refusal: number, place, what is returned and the twin list"
   pub otherwise : (f : Fault) → small.answer ≡ Err f → (Lifted d.rows f.error → ⊥) → (large.answer ≡ Err f) × (large.twins ≡ small.twins)
   pub no_kind : Returns45 c.kinds c.rows bytes small.answer × Returns45 d.kinds d.rows bytes large.answer

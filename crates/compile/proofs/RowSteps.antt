@@ -10,7 +10,7 @@ use Rattle.laws.specs.Out.{given, refused}
 use Rattle.laws.proofs.Cases.{and_left, and_right}
 use Rattle.dimension.specs.declared.dimensions.Dimensions.{Dimensions}
 use Rattle.rules.specs.Kinds.{Kinds, Rows, point, carries}
-use Rattle.rules.specs.Refusal.{InvalidOperationRule}
+use Rattle.rules.specs.Refusal.{InvalidOperationRule, code_of}
 use Rattle.rules.specs.Arithmetic as rule
 use Rattle.error.specs.Shown.{fault, fine}
 use Rattle.std.specs.declared.result.Result.{Result}
@@ -106,9 +106,9 @@ module _ (K : Kinds) (R : Rows) (x : Row) (i : ℕ) where
 
   -- ---- 23, 19 for the result
   module _ {p : Bool} (e : p ≡ point K x.result) where
-    pub named_point : p ≡ true → no (cause.Point x.left x.op x.right x.result) i ≡ ruled i (row_named K R x)
+    pub named_point : {c : ℕ} → p ≡ true → c ≡ code_of x.op → no (cause.Point x.left c x.right x.result) i ≡ ruled i (row_named K R x)
     unfolding ruled row_named fine
-    named_point q = rw (sym e ∙ q)
+    named_point q f = rw (sym e ∙ q, f)
 
     module _ (q : p ≡ false) {b : Bool} (f : b ≡ is_some (K.dims x.result)) where
       pub named_unresolved : not b ≡ true → no (cause.UnresolvedDimensions x.result) i ≡ ruled i (row_named K R x)

@@ -47,6 +47,18 @@ fn check_rules(c: Declared) -> Result<(), Fault>
     check_rows(c)
 }
 
+// Puts all words in front of what the table holds, one by one: `copy_from_slice` of two lent lists would be `memmove` of the C library, which no
+// program that links the archive needed before.
+#[tactic(auto, using(crate::proofs::Copied::copies))]
+fn copy(words: &[u32], table: &mut [u32])
+    requires { length words.now ≤ length table.old }
+    ensures { table.new ≡ overlay words.now table.old }
+{
+    for i in 0..words.len() {
+        table[i] = words[i];
+    }
+}
+
 // Writes the table: the front, zeros up to the rows, the rows.
 fn write(front: &[u32], rows: &[u32], table: &mut [u32])
     requires front_len_bound { length front.now ≤ 7696 }
@@ -55,7 +67,7 @@ fn write(front: &[u32], rows: &[u32], table: &mut [u32])
     ensures { table.new ≡ overlay (whole front.now rows.now) table.old }
 {
     let n = front.len();
-    table[..n].copy_from_slice(front);
+    copy(front, table);
     table[n..ROWS].fill(0);
     table[ROWS..ROWS + rows.len()].copy_from_slice(rows);
 }

@@ -15,7 +15,7 @@ use crate::declared::Declared;
 use catalog::{is_commutative, op_at, row_count, row_place};
 use derive::{Graded, Several, derive, resolve_by};
 use dimension::ProductOp;
-use error::{Error, Fault};
+use error::{Error, Fault, op_code};
 use fitting::carries;
 use joined::is_quotient;
 use table::{is_point, is_resolved, row_of};
@@ -125,7 +125,10 @@ fn check_named(t: &[u32], rows: &[u32], row: Row, i: u16) -> Result<(), Fault>
     ensures { result ≡ ruled i (row_named (T.kinds_of t.now) (T.rows_of rows.now) row) }
 {
     if is_point(t, row.result) {
-        return refused_at(Error::Point(row.left, row.op, row.right, row.result), i);
+        return refused_at(
+            Error::Point(row.left, op_code(row.op), row.right, row.result),
+            i,
+        );
     }
     if !is_resolved(t, row.result) {
         return refused_at(Error::UnresolvedDimensions(row.result), i);

@@ -1,4 +1,4 @@
--- A derivation in code: what it tells of the rules' (`derivations`), and how early returns meet them, one law a return (`derives`). Assumes
+-- A derivation in code: what it tells of the rules', and how early returns meet them, one law a return (`derives`). Assumes
 -- nothing.
 use Prim.Native.Nat.{ℕ}
 use mathlib.Core.Path.{◌≡◌, refl, sym, ◌∙◌, ap}
@@ -14,7 +14,8 @@ use Rattle.dimension.specs.Dimension as D
 use Rattle.dimension.specs.declared.dimensions.Dimensions.{Dimensions}
 use Rattle.dimension.specs.declared.grade.ProductOp.{ProductOp}
 use Rattle.rules.specs.Kinds.{Kinds, Graded, point}
-use Rattle.rules.specs.Refusal.{Refusal, Answer}
+use Rattle.rules.specs.Refusal as why
+use Rattle.rules.specs.Refusal.{Refusal, Answer, told, code_of}
 use Rattle.rules.specs.Arithmetic as rule
 use Rattle.error.specs.Shown.{error_of}
 use Rattle.error.specs.declared.cause.Error.{Error}
@@ -64,12 +65,12 @@ module _ (K : Kinds) (l : ℕ) (op : ProductOp) (r : ℕ) where
     right_none p = rw (pl, p)
 
     module _ {e : Dimensions} (pr : K.dims r ≡ Some e) where
-      left_is_point : point K l ≡ true → Err (cause.Point l op r l) ≡ ruled_as (rule.derive K l op r)
+      left_is_point : point K l ≡ true → Err (cause.Point l (code_of op) r l) ≡ ruled_as (rule.derive K l op r)
       unfolding rule.derive rule.operand
       left_is_point p = rw (pl, pr, p)
 
       module _ (ql : point K l ≡ false) where
-        right_is_point : point K r ≡ true → Err (cause.Point l op r r) ≡ ruled_as (rule.derive K l op r)
+        right_is_point : point K r ≡ true → Err (cause.Point l (code_of op) r r) ≡ ruled_as (rule.derive K l op r)
         unfolding rule.derive rule.operand
         right_is_point p = rw (pl, pr, ql, p)
 
@@ -98,12 +99,12 @@ module _ (K : Kinds) (l : ℕ) (op : ProductOp) (r : ℕ) {a : Bool} (ea : a ≡
       pr : K.dims r ≡ Some (dims_at K r)
       pr = is_some_law (K.dims r) D.one eb fb
 
-      pub left_point : {v : Result ℕ Error} → p ≡ true → v ≡ Err (cause.Point l op r l) → v ≡ ruled_as (rule.derive K l op r)
-      left_point fp h = h ∙ left_is_point K l op r pl pr (sym ep ∙ fp)
+      pub left_point : {c : ℕ} {v : Result ℕ Error} → p ≡ true → c ≡ code_of op → v ≡ Err (cause.Point l c r l) → v ≡ ruled_as (rule.derive K l op r)
+      left_point fp f h = h ∙ ap (λ (c : ℕ). Err (cause.Point l c r l)) f ∙ left_is_point K l op r pl pr (sym ep ∙ fp)
 
       module _ (fp : p ≡ false) {q : Bool} (eq : q ≡ point K r) where
-        pub right_point : {v : Result ℕ Error} → q ≡ true → v ≡ Err (cause.Point l op r r) → v ≡ ruled_as (rule.derive K l op r)
-        right_point fq h = h ∙ right_is_point K l op r pl pr (sym ep ∙ fp) (sym eq ∙ fq)
+        pub right_point : {c : ℕ} {v : Result ℕ Error} → q ≡ true → c ≡ code_of op → v ≡ Err (cause.Point l c r r) → v ≡ ruled_as (rule.derive K l op r)
+        right_point fq f h = h ∙ ap (λ (c : ℕ). Err (cause.Point l c r r)) f ∙ right_is_point K l op r pl pr (sym ep ∙ fp) (sym eq ∙ fq)
 
         module _ (fq : q ≡ false) {w : Option ℕ} (ew : w ≡ rule.grade_by K op (K.grade l) (K.grade r)) where
           pub ungraded : {v : Result ℕ Error} → w ≡ None → v ≡ Err (cause.Ungraded l r (K.grade l) (K.grade r)) → v ≡ ruled_as (rule.derive K l op r)
@@ -127,8 +128,8 @@ module _ (K : Kinds) (l : ℕ) (op : ProductOp) (r : ℕ) {v : Result ℕ Error}
           → (w : Option ℕ) → rule.grade_by K op (K.grade l) (K.grade r) ≡ w → rule.derive K l op r ≡ given (at (rule.joined op (dims_at K l) (dims_at K r)) g)
       go None ea b eb p ep q eq w ew = absurd (never (cause.UnresolvedDimensions l) (e ∙ rw ea))
       go (Some a) ea None eb p ep q eq w ew = absurd (never (cause.UnresolvedDimensions r) (e ∙ rw (ea, eb)))
-      go (Some a) ea (Some b) eb true ep q eq w ew = absurd (never (cause.Point l op r l) (e ∙ rw (ea, eb, ep)))
-      go (Some a) ea (Some b) eb false ep true eq w ew = absurd (never (cause.Point l op r r) (e ∙ rw (ea, eb, ep, eq)))
+      go (Some a) ea (Some b) eb true ep q eq w ew = absurd (never (cause.Point l (code_of op) r l) (e ∙ rw (ea, eb, ep)))
+      go (Some a) ea (Some b) eb false ep true eq w ew = absurd (never (cause.Point l (code_of op) r r) (e ∙ rw (ea, eb, ep, eq)))
       go (Some a) ea (Some b) eb false ep false eq None ew = absurd (never (cause.Ungraded l r (K.grade l) (K.grade r)) (e ∙ rw (ea, eb, ep, eq, ew)))
       go (Some a) ea (Some b) eb false ep false eq (Some m) ew =
           let z : v ≡ Ok m = e ∙ rw (ea, eb, ep, eq, ew) in
@@ -153,3 +154,21 @@ module _ (K : Kinds) (l : ℕ) (op : ProductOp) (r : ℕ) {v : Result ℕ Error}
 pub with_dims : (K : Kinds) (l : ℕ) (op : ProductOp) (r : ℕ) {g : ℕ} {d : Dimensions} → Ok g ≡ ruled_as (rule.derive K l op r) → d ≡ rule.joined op (dims_at K l) (dims_at K r)
     → Ok (record { dims = d; grade = g }) ≡ derived (rule.derive K l op r)
 with_dims K l op r e q = rw (of_told K l op r e refl, q)
+
+-- ---- a refusal of a derivation returns no dimensions
+-- one refusal is another
+abbrev Same : Refusal → Refusal → Type 0
+Same y x = ◌≡◌ {A = Answer Graded} (refused y) (refused x)
+
+pub plain_refusal : (K : Kinds) (l : ℕ) (op : ProductOp) (r : ℕ) (x : Refusal) → rule.derive K l op r ≡ refused x → (told x).dims ≡ None
+unfolding rule.derive rule.operand rule.graded told
+plain_refusal K l op r x e = go (K.dims l) refl (K.dims r) refl (point K l) refl (point K r) refl (rule.grade_by K op (K.grade l) (K.grade r)) refl
+  where
+    go : (a : Option Dimensions) → K.dims l ≡ a → (b : Option Dimensions) → K.dims r ≡ b → (p : Bool) → point K l ≡ p → (q : Bool) → point K r ≡ q
+        → (g : Option ℕ) → rule.grade_by K op (K.grade l) (K.grade r) ≡ g → (told x).dims ≡ None
+    go None ea b eb p ep q eq g eg = let z : Same (why.UnresolvedDimensions l) x = rw ea at e in cc
+    go (Some a) ea None eb p ep q eq g eg = let z : Same (why.UnresolvedDimensions r) x = rw (ea, eb) at e in cc
+    go (Some a) ea (Some b) eb true ep q eq g eg = let z : Same (why.Point l op r l) x = rw (ea, eb, ep) at e in cc
+    go (Some a) ea (Some b) eb false ep true eq g eg = let z : Same (why.Point l op r r) x = rw (ea, eb, ep, eq) at e in cc
+    go (Some a) ea (Some b) eb false ep false eq None eg = let z : Same (why.Ungraded l r (K.grade l) (K.grade r)) x = rw (ea, eb, ep, eq, eg) at e in cc
+    go (Some a) ea (Some b) eb false ep false eq (Some g) eg = let z : given (at (rule.joined op a b) g) ≡ refused x = rw (ea, eb, ep, eq, eg) at e in cc

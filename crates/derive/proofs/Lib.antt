@@ -1,5 +1,5 @@
 -- What crates above may use, beyond the contracts:
---     Derives      what a derivation tells of the rules', and how code meets it: `derives`
+--     Derives      what a derivation tells of the rules', and how code meets it: `derives`; its refusals return no dimensions
 --     Resolves     what a resolution tells of the rules'
 pub mod Derives
 pub mod Resolves

@@ -7,7 +7,7 @@ ghost use Rattle.joined.specs.Shown.{dims_at};
 ghost use Rattle.derive.specs.Shown.{ruled_as, derived};
 
 use dimension::{Dimensions, ProductOp, product_grade};
-use error::Error;
+use error::{Error, op_code};
 use joined::joined;
 use table::{dims_of, grade_of, is_point, is_resolved};
 
@@ -53,10 +53,10 @@ pub fn ruled(t: &[u32], l: u16, op: ProductOp, r: u16) -> Result<u32, Error>
         return Err(Error::UnresolvedDimensions(r));
     }
     if is_point(t, l) {
-        return Err(Error::Point(l, op, r, l));
+        return Err(Error::Point(l, op_code(op), r, l));
     }
     if is_point(t, r) {
-        return Err(Error::Point(l, op, r, r));
+        return Err(Error::Point(l, op_code(op), r, r));
     }
     match grade_at(t, l, op, r) {
         Some(g) => Ok(u32::from(g)),

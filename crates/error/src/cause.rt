@@ -4,7 +4,7 @@ ghost use Rattle.std.specs.Prelude.{◌≡◌};
 ghost use Rattle.error.specs.Shown.{fault};
 
 use crate::fault::Fault;
-use dimension::{Dimensions, ProductOp, Rational};
+use dimension::{Dimensions, Rational};
 
 #[derive(Clone, Copy)]
 pub enum Error {
@@ -28,7 +28,8 @@ pub enum Error {
     RateMismatch(Dimensions, u32),
     AlsoRateOf(u16),
     CommutativeQuotient(u16),
-    Point(u16, ProductOp, u16, u16),
+    // the code of the product's token, here and in UnresolvedTwin: a refusal hands it out, and is told whatever number it has
+    Point(u16, u8, u16, u16),
     Ungraded(u16, u16, u32, u32),
     InvalidOperationRule(Dimensions, u32),
     DerivedOperationRule(u16),
@@ -42,7 +43,7 @@ pub enum Error {
     // number is 65,535 where 43 returns that for a kind that isn't there: the rules' refusal has it so, and `say` alone reads it
     UnsupportedOperation(u8, u16, u16),
     // left, operation, right and how many kinds fit
-    UnresolvedTwin(u16, ProductOp, u16, u16),
+    UnresolvedTwin(u16, u8, u16, u16),
     NoProductKind(Dimensions, u32),
     UngradedPower(u32),
     NoPowerKind(Dimensions),

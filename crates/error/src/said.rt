@@ -4,7 +4,6 @@ ghost use Rattle.std.specs.declared.option.Option.TheVariants.{None, Some};
 ghost use Rattle.error.specs.Shown.{says, said_of};
 
 use crate::cause::Error;
-use crate::op::op_code;
 use dimension::Dimensions;
 
 // A refusal's number, the dimensions that it returns, and the values after them, the first `count` of four. The count stands beside them since no
@@ -42,8 +41,7 @@ fn says_dims(number: u32, dims: Dimensions, grade: u32) -> Said
     }
 }
 
-// 65,535 is what document 01 returns for a kind that isn't there: a value that is handed out and that nothing here reads again. A product is handed
-// out as the code of its token for the same reason. A grade or a schema goes by `as`, as no `From` takes 32 bits to an index. It is no `From` itself: by
+// 65,535 is what document 01 returns for a kind that isn't there: a value that is handed out and that nothing here reads again. A grade or a schema goes by `as`, as no `From` takes 32 bits to an index. It is no `From` itself: by
 // its name the laws speak of it (`said_told`).
 #[tactic(auto, unfolding(crate::specs::Shown::said_of))]
 pub fn say(e: Error) -> Said
@@ -72,7 +70,7 @@ pub fn say(e: Error) -> Said
             23,
             [
                 usize::from(l),
-                usize::from(op_code(op)),
+                usize::from(op),
                 usize::from(r),
                 usize::from(k),
             ],

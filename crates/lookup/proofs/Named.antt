@@ -55,7 +55,7 @@ module _ (code : ℕ) {o : Option Op} (e : o ≡ option_map op_as (rule.op_by co
 pub ruleset products = (is_product, is_none)
 
 -- neither of the two
-pub named_else : (e : Error) → ((l : ℕ) (op : ProductOp) (r n : ℕ) → e ≡ cause.UnresolvedTwin l op r n → ⊥) → ((k : ℕ) (x : Rational) (n : ℕ) → e ≡ cause.UnresolvedPowerTwin k x n → ⊥) → None ≡ named e
+pub named_else : (e : Error) → ((l op r n : ℕ) → e ≡ cause.UnresolvedTwin l op r n → ⊥) → ((k : ℕ) (x : Rational) (n : ℕ) → e ≡ cause.UnresolvedPowerTwin k x n → ⊥) → None ≡ named e
 unfolding named
 named_else (cause.ImageLength n) p q = refl
 named_else (cause.WrongBlock b) p q = refl

@@ -1,6 +1,6 @@
 -- A refusal of a lookup names its twins: what is listed of the code's refusal are the twins that the rules' refusal has. Assumes nothing.
 use Prim.Native.Nat.{ℕ}
-use mathlib.Core.Path.{◌≡◌, refl, sym, ◌∙◌}
+use mathlib.Core.Path.{◌≡◌, refl, sym, ◌∙◌, ap}
 use mathlib.Core.Bool.{Bool, true, false, cond, not, ◌&&◌}
 use mathlib.Core.List.{List, [], ◌∷◌}
 use Rattle.std.specs.declared.option.Option.{Option}
@@ -14,16 +14,17 @@ use Rattle.dimension.specs.Dimension as D
 use Rattle.dimension.specs.declared.rational.Rational.{Rational}
 use Rattle.dimension.specs.declared.dimensions.Dimensions.{Dimensions}
 use Rattle.dimension.specs.declared.grade.ProductOp.{ProductOp}
+use Rattle.dimension.specs.declared.grade.ProductOp.TheVariants.{Mul, Div, Dot, Wedge}
 use Rattle.rules.specs.Kinds.{Kinds, Rows, Graded, point, candidates}
 use Rattle.rules.specs.Refusal as why
-use Rattle.rules.specs.Refusal.{Refusal, Answer, Placed, told, twins_after}
+use Rattle.rules.specs.Refusal.{Refusal, Answer, Placed, told, twins_after, code_of}
 use Rattle.rules.specs.Arithmetic as rule
 use Rattle.rules.specs.Lookup as lone
 use Rattle.rules.specs.Table.{is_table, are_rows}
 use Rattle.error.specs.Shown.{error_of, shown}
 use Rattle.fitting.specs.Shown.{at, room_listed}
 use Rattle.derive.proofs.Resolves.{fitting_all}
-use Rattle.lookup.specs.Shown.{named, name_of, fits_derived, twins_from, twins_of, lent, indexed_combine, indexed_power, power_by}
+use Rattle.lookup.specs.Shown.{op_by, named, name_of, fits_derived, twins_from, twins_of, lent, indexed_combine, indexed_power, power_by}
 use Rattle.lookup.proofs.Listing.{list_none}
 
 -- of an answer that is refused
@@ -95,6 +96,13 @@ module _ (K : Kinds) where
       go rule.Add None None = agree_names l r l
 
 -- ---- 44
+op_back : (op : ProductOp) → op_by (code_of op) ≡ op
+unfolding op_by
+op_back Mul = refl
+op_back Div = refl
+op_back Dot = refl
+op_back Wedge = refl
+
 module _ (K : Kinds) (l : ℕ) (op : ProductOp) (r : ℕ) where
   fits_derived_law : (x : Graded) → rule.derive K l op r ≡ given x → fits_derived K l op r ≡ candidates K x
   unfolding fits_derived
@@ -110,7 +118,7 @@ module _ (K : Kinds) (l : ℕ) (op : ProductOp) (r : ℕ) where
       go (k ∷ []) p o = tt
       go [] p o = refl
       go (j ∷ m ∷ ks) p (Some k) = tt
-      go (j ∷ m ∷ ks) p None = fits_derived_law x e ∙ sym (fitting_all K (or_else (rule.neutral K l op r) (rule.rated K l op r)) x p)
+      go (j ∷ m ∷ ks) p None = ap (λ (q : ProductOp). fits_derived K l q r) (op_back op) ∙ fits_derived_law x e ∙ sym (fitting_all K (or_else (rule.neutral K l op r) (rule.rated K l op r)) x p)
 
   product_names : (R : Rows) → Names K (rule.product K R l op r)
   unfolding rule.product

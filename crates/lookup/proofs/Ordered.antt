@@ -1,7 +1,7 @@
 -- What is asked in turn, one law a return: a test that is passed or refused (`indexing`), two kinds (`combining`), one kind (`raising`). Assumes
 -- nothing.
 use Prim.Native.Nat.{ℕ, ◌<◌, ◌≤◌}
-use mathlib.Core.Path.{◌≡◌, refl, ap}
+use mathlib.Core.Path.{◌≡◌, ap}
 use mathlib.Core.Bool.{true, false, true≢false}
 use mathlib.Core.List.{List, []}
 use Rattle.std.specs.declared.option.Option.{Option}

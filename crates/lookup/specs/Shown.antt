@@ -65,7 +65,7 @@ named (cause.UngradedPower g) = None
 named (cause.NoPowerKind d) = None
 named (cause.NumberTerm c k) = None
 named (cause.Malformed p) = None
-named (cause.UnresolvedTwin l op r n) = Some (Product l op r)
+named (cause.UnresolvedTwin l op r n) = Some (Product l (op_by op) r)
 named (cause.UnresolvedPowerTwin k e n) = Some (Power k e)
 
 -- what an answer names

@@ -38,7 +38,7 @@ fn named(e: Error) -> Option<Origin>
     ensures { result ≡ named e }
 {
     match e {
-        Error::UnresolvedTwin(l, op, r, n) => Some(Origin::Product(l, op, r)),
+        Error::UnresolvedTwin(l, op, r, n) => Some(Origin::Product(l, op_of(op), r)),
         Error::UnresolvedPowerTwin(k, e, n) => Some(Origin::Power(k, e)),
         _ => None,
     }

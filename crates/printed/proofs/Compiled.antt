@@ -4,6 +4,7 @@ use mathlib.Core.Path.{◌≡◌, refl, sym, ◌∙◌, ap}
 use mathlib.Core.Bool.{true, false, true≢false}
 use mathlib.Core.List.{List}
 use lib.ListN.{length}
+use Rattle.std.specs.declared.option.Option.{Option}
 use Rattle.std.specs.declared.result.Result.{Result}
 use Rattle.std.specs.declared.result.Result.TheVariants.{Ok, Err}
 use Rattle.laws.specs.Out.{given, refused}
@@ -20,7 +21,7 @@ use Rattle.error.specs.Shown.{fault_of}
 use Rattle.formula.specs.Shown.{termed}
 use Rattle.formula.specs.declared.terms.Term.{Term}
 use Rattle.compile.specs.Shown.{compiled}
-use Rattle.printed.specs.Shown.{written, line_of}
+use Rattle.printed.specs.Shown.{written, of_formula, line_of}
 use Rattle.printed.specs.declared.text.Line.{Line}
 use Rattle.printed.proofs.Told.{line_termed}
 
@@ -55,7 +56,7 @@ module _ (s bytes : List ℕ) where
       go (refused f) z = let p = rw z at e in let y : true ≡ false = cc in absurd (true≢false y)
       go (given c) z = r ∙ rw (q, h) (ap termed (sym (checked_given old c b l z)))
 
-pub prints : (input : List ℕ) {i f : List ℕ} {r : Line} {v : Result Term code.Fault} → i ≡ image_part input → f ≡ formula_part input → v ≡ termed (checked i f) → r ≡ written (line_of i v) → r ≡ written (kindcheck input)
+pub prints : (input : List ℕ) {i f : List ℕ} {r : Line} {v : Result Term code.Fault} {w : Result (Option Term) code.Fault} → i ≡ image_part input → f ≡ formula_part input → v ≡ termed (checked i f) → w ≡ of_formula v → r ≡ written (line_of i w) → r ≡ written (kindcheck input)
 unfolding kindcheck
-prints input {i} {f} p q e h =
-    h ∙ ap (λ (a : Result Term code.Fault). written (line_of i a)) e ∙ ap written (line_termed i (checked i f)) ∙ rw (p, q)
+prints input {i} {f} p q e o h =
+    h ∙ ap (λ (a : Result (Option Term) code.Fault). written (line_of i a)) o ∙ ap (λ (a : Result Term code.Fault). written (line_of i (of_formula a))) e ∙ ap written (line_termed i (checked i f)) ∙ rw (p, q)

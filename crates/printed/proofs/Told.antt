@@ -21,7 +21,7 @@ use Rattle.rules.specs.Report as report
 use Rattle.error.specs.declared.said.Said.{Said}
 use Rattle.error.proofs.Told.{said_told}
 use Rattle.formula.specs.Shown.{termed}
-use Rattle.printed.specs.Shown.{line_of, refused_line}
+use Rattle.printed.specs.Shown.{of_formula, line_of, refused_line}
 
 -- ---- an id has at most 32 bytes
 id_short : (s : List ℕ) (p : ℕ) → length (report.id_part s p) ≤ 32
@@ -46,8 +46,8 @@ kind_short s k = go (image_check s) (ltb k (kind_count s))
 
 -- ---- the code's line for an answer is the rules'
 module _ (image : List ℕ) where
-  pub line_termed : (m : Placed rule.Term) → line_of image (termed m) ≡ report.line image m
-  unfolding line_of termed report.line
+  pub line_termed : (m : Placed rule.Term) → line_of image (of_formula (termed m)) ≡ report.line image m
+  unfolding line_of of_formula termed report.line
   line_termed (given rule.Number) = refl
   line_termed (given (rule.Kind k)) = refl
   line_termed (refused x) = ap (λ (s : Said). refused_line s.number x.place) (said_told x.refusal)

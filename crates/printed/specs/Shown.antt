@@ -1,5 +1,7 @@
 -- What the code's lines show of the rules: the bytes of a line, and the line for each answer. `line_termed` says that it is the rules' own.
 use Rattle.std.specs.Prelude.{ℕ, ◌+◌, cond, List, [], ◌∷◌, ◌++◌, ltb, length, set, replicate}
+use Rattle.std.specs.declared.option.Option.{Option}
+use Rattle.std.specs.declared.option.Option.TheVariants.{None, Some}
 use Rattle.std.specs.declared.result.Result.{Result}
 use Rattle.std.specs.declared.result.Result.TheVariants.{Ok, Err}
 use Rattle.laws.specs.Ranges.{overlay}
@@ -33,7 +35,14 @@ kind_line image k = (107 ∷ 105 ∷ 110 ∷ 100 ∷ 32 ∷ []) ++ digits k ++ (
 abbrev pub refused_line : ℕ → ℕ → List ℕ
 refused_line number place = (114 ∷ 101 ∷ 102 ∷ 117 ∷ 115 ∷ 101 ∷ 100 ∷ 32 ∷ []) ++ digits number ++ (32 ∷ []) ++ digits place ++ (10 ∷ [])
 
-unfoldable pub line_of : List ℕ → Result Term Fault → List ℕ
-line_of image (Ok Number) = number_line
-line_of image (Ok (Kind k)) = kind_line image k
+-- a formula's answer: a term or a refusal, and never a check that passed
+unfoldable pub of_formula : Result Term Fault → Result (Option Term) Fault
+of_formula (Ok t) = Ok (Some t)
+of_formula (Err x) = Err x
+
+-- of an answer to a formula, and no line for a check that passed
+unfoldable pub line_of : List ℕ → Result (Option Term) Fault → List ℕ
+line_of image (Ok (Some Number)) = number_line
+line_of image (Ok (Some (Kind k))) = kind_line image k
+line_of image (Ok None) = []
 line_of image (Err x) = refused_line (said_of x.error).number x.place

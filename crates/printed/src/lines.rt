@@ -39,13 +39,15 @@ fn refused_line(fault: Fault) -> Line
         .put(b'\n')
 }
 
+// That a check passed, None, is told of no formula, and no line is printed for it.
 #[tactic(auto, unfolding(crate::specs::Shown::line_of))]
-pub fn line(image: &[u8], answer: Result<Term, Fault>) -> Line
+pub fn line(image: &[u8], answer: Result<Option<Term>, Fault>) -> Line
     ensures { result ≡ written (line_of image.now answer) }
 {
     match answer {
-        Ok(Term::Number) => number_line(),
-        Ok(Term::Kind(k)) => kind_line(image, k),
+        Ok(Some(Term::Number)) => number_line(),
+        Ok(Some(Term::Kind(k))) => kind_line(image, k),
+        Ok(None) => Line::empty(),
         Err(fault) => refused_line(fault),
     }
 }

@@ -31,8 +31,8 @@ module _ (o : Option ℕ) {u : Option ℕ} where
   pub row_names : {v : Result ℕ Error} → {k : ℕ} (x : Result ℕ Error) → u ≡ Some k → u ≡ o → v ≡ Ok k → v ≡ found o Ok x
   row_names x p e h = rw (to_some o p e) h
 
-  pub row_missing : {v : Result ℕ Error} → (l : ℕ) (op : ProductOp) (r n : ℕ) {m : ℕ} → u ≡ None → u ≡ o → m ≡ n → v ≡ Err (cause.UnresolvedTwin l op r m) → v ≡ found o Ok (Err (cause.UnresolvedTwin l op r n))
-  row_missing l op r n p e s h = rw (nowhere_none o p e, ← s) h
+  pub row_missing : {v : Result ℕ Error} → (l : ℕ) (op : ProductOp) (r n : ℕ) {c m : ℕ} → u ≡ None → u ≡ o → c ≡ code_of op → m ≡ n → v ≡ Err (cause.UnresolvedTwin l c r m) → v ≡ found o Ok (Err (cause.UnresolvedTwin l (code_of op) r n))
+  row_missing l op r n p e f s h = rw (nowhere_none o p e, ← s, ← f) h
 
 -- the rows' kind, or twins
 looked_known : (o : Option ℕ) (x : why.Refusal) → found o Ok (Err (error_of x)) ≡ looked (known o (refused x))
@@ -48,9 +48,9 @@ module _ (K : Kinds) (R : Rows) (l : ℕ) (op : ProductOp) (r : ℕ) where
       unfolding looked
       fitted_only p = rw (← q, only_fits (candidates K (at d g)) p e)
 
-      pub fitted_several : {a : Result ℕ Error} {m : ℕ} → v ≡ Second m → a ≡ found (R l op r) Ok (Err (cause.UnresolvedTwin l op r (twins_from K (at d g) m))) → a ≡ looked (fitted_as K R l op r (joined_as K l op r g))
+      pub fitted_several : {a : Result ℕ Error} {m : ℕ} → v ≡ Second m → a ≡ found (R l op r) Ok (Err (cause.UnresolvedTwin l (code_of op) r (twins_from K (at d g) m))) → a ≡ looked (fitted_as K R l op r (joined_as K l op r g))
       fitted_several {a} {m} p h =
-          h ∙ ap (λ (n : ℕ). found (R l op r) Ok (Err (cause.UnresolvedTwin l op r n))) (twins_counted K (at d g) p e)
+          h ∙ ap (λ (n : ℕ). found (R l op r) Ok (Err (cause.UnresolvedTwin l (code_of op) r n))) (twins_counted K (at d g) p e)
           ∙ looked_known (R l op r) (why.UnresolvedTwin l op r (candidates K (at d g)))
           ∙ ap looked (rw (← q) (sym (settle_several (candidates K (at d g)) _ given _ (second_fits (candidates K (at d g)) p e))))
 

@@ -7,6 +7,7 @@ ghost use Rattle.std.specs.Prelude.{◌≡◌};
 ghost use Rattle.laws.specs.Options.{found};
 ghost use Rattle.std.specs.declared.result.Result.TheVariants.{Ok, Err};
 ghost use Rattle.rules.specs.Arithmetic as rule;
+ghost use Rattle.rules.specs.Refusal.{code_of};
 ghost use Rattle.rules.specs.Table.{kinds_of, rows_of, dims_from};
 ghost use Rattle.fitting.specs.Shown.{at, twins_from};
 ghost use Rattle.error.specs.declared.cause.Error.TheVariants as cause;
@@ -14,7 +15,7 @@ ghost use Rattle.registry.specs.Shown.{looked, joined_as, fitted_as, settled_as}
 
 use derive::{known_kind, ruled};
 use dimension::ProductOp;
-use error::Error;
+use error::{Error, op_code};
 use fitting::{Fit, only_fit, twins_from};
 use joined::joined_words;
 use table::{dims_in, row_of};
@@ -31,11 +32,11 @@ fn several(
     g: u32,
     k: u16,
 ) -> Result<u16, Error>
-    ensures { result ≡ found (rows_of rows.now l op r) Ok (Err (cause.UnresolvedTwin l op r (twins_from (kinds_of t.now) (at (dims_from w.now 0) g) k))) }
+    ensures { result ≡ found (rows_of rows.now l op r) Ok (Err (cause.UnresolvedTwin l (code_of op) r (twins_from (kinds_of t.now) (at (dims_from w.now 0) g) k))) }
 {
     match row_of(rows, l, op, r) {
         Some(m) => Ok(m),
-        None => Err(Error::UnresolvedTwin(l, op, r, twins_from(t, w, g, k))),
+        None => Err(Error::UnresolvedTwin(l, op_code(op), r, twins_from(t, w, g, k))),
     }
 }
 

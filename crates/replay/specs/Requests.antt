@@ -19,6 +19,11 @@ use Rattle.stored.specs.Answers.{size_of, number_as, kind_as, refusal_as}
 use Rattle.replay.specs.declared.requests.Requests.{Requests}
 use Rattle.replay.specs.declared.requests.Requests.TheVariants.{Lookups, Formulas}
 
+-- the number of a file's group, in its header
+unfoldable pub group_of : Requests → ℕ
+group_of Lookups = 3
+group_of Formulas = 4
+
 -- ---- the request that bytes begin with
 unfoldable pub exponent_in : List ℕ → lone.Exponent
 exponent_in s = cond (eqb (byte s 0) 9) lone.inexact (lone.exact (twos 2147483648 (le4 s 4)) (le4 s 8))

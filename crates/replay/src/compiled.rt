@@ -4,6 +4,7 @@ ghost use Rattle.std.specs.Prelude.{◌≡◌, ◌+◌, ◌*◌, ◌≤◌};
 ghost use Rattle.replay.specs.Compiled as C;
 
 use crate::kinds::{is_kind, is_pair};
+use crate::pieces::Compared;
 use error::Fault;
 use numbers::{byte_at, u16_at, u32_at};
 use slices::after;
@@ -122,7 +123,7 @@ fn is_answered(s: &[u8], answer: Result<(), Fault>, t: &[u32]) -> bool
 }
 
 // Whether the image is compiled as s begins by saying.
-pub(crate) fn agrees(s: &[u8], image: &[u8]) -> bool
+fn agrees(s: &[u8], image: &[u8]) -> bool
     ensures { result ≡ C.compiled_so s.now image.now }
 {
     let mut table = [UNWRITTEN; LENT];
@@ -132,7 +133,7 @@ pub(crate) fn agrees(s: &[u8], image: &[u8]) -> bool
 
 // The bytes of the stored answer.
 #[tactic(auto, unfolding(crate::specs::Compiled::answer_size))]
-pub(crate) fn size(s: &[u8]) -> usize
+fn size(s: &[u8]) -> usize
     ensures value { result ≡ C.answer_size s.now }
     ensures upper_bound { result ≤ 101579258 }
 {
@@ -140,4 +141,14 @@ pub(crate) fn size(s: &[u8]) -> usize
         return kinds_end(s, u16_at(s, 4)) + 10 * usize::from(u16_at(s, 6));
     }
     stored::answer_size(s)
+}
+
+// Both, of the answer that s begins with.
+pub(crate) fn compared(s: &[u8], image: &[u8]) -> Compared
+    ensures { result.agrees ≡ C.compiled_so s.now image.now }
+{
+    Compared {
+        agrees: agrees(s, image),
+        size: size(s),
+    }
 }

@@ -3,6 +3,7 @@ ghost use Rattle.std.specs.Prelude.{◌≡◌, ◌≤◌};
 ghost use Rattle.laws.specs.Ranges.{all};
 ghost use Rattle.replay.specs.Pieces as P;
 
+use crate::pieces::Compared;
 use numbers::{byte_at, u16_at};
 use printed::Line;
 use slices::after;
@@ -25,7 +26,7 @@ fn is_line(s: &[u8], line: Line) -> bool
 
 // Whether kindcheck prints the line that s begins with.
 #[tactic(auto, unfolding(crate::specs::Pieces::printed_so))]
-pub(crate) fn agrees(s: &[u8], input: &[u8]) -> bool
+fn agrees(s: &[u8], input: &[u8]) -> bool
     ensures { result ≡ P.printed_so s.now input.now }
 {
     is_line(s, printed::kindcheck(input))
@@ -33,9 +34,19 @@ pub(crate) fn agrees(s: &[u8], input: &[u8]) -> bool
 
 // The bytes of the stored line.
 #[tactic(auto, unfolding(crate::specs::Pieces::line_size))]
-pub(crate) fn size(s: &[u8]) -> usize
+fn size(s: &[u8]) -> usize
     ensures value { result ≡ P.line_size s.now }
     ensures upper_bound { result ≤ 65537 }
 {
     2 + usize::from(u16_at(s, 0))
+}
+
+// Both, of the answer that s begins with.
+pub(crate) fn compared(s: &[u8], input: &[u8]) -> Compared
+    ensures { result.agrees ≡ P.printed_so s.now input.now }
+{
+    Compared {
+        agrees: agrees(s, input),
+        size: size(s),
+    }
 }

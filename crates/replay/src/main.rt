@@ -9,7 +9,6 @@ mod pieces;
 mod requests;
 mod sections;
 
-use pieces::Compared;
 use requests::Requests;
 use std::io;
 
@@ -18,29 +17,14 @@ const COMPILATIONS: u32 = 2;
 
 const LINES: u32 = 6;
 
+#[tactic(auto, unfolding(crate::specs::Pieces::agreed_on))]
 fn main(rt: HostRuntime) -> io::Result<()> {
     let tally = sections::replayed(&rt, "lookups.bin", Requests::Lookups)?;
     println!(rt; "lookups {tally}")?;
     let tally = sections::replayed(&rt, "formulas.bin", Requests::Formulas)?;
     println!(rt; "formulas {tally}")?;
-    let tally = pieces::replayed(
-        &rt,
-        "compile.bin",
-        COMPILATIONS,
-        |s, image| Compared {
-            agrees: compiled::agrees(s, image),
-            size: compiled::size(s),
-        },
-    )?;
+    let tally = pieces::replayed(&rt, "compile.bin", COMPILATIONS, compiled::compared)?;
     println!(rt; "compilations {tally}")?;
-    let tally = pieces::replayed(
-        &rt,
-        "lines.bin",
-        LINES,
-        |s, input| Compared {
-            agrees: lines::agrees(s, input),
-            size: lines::size(s),
-        },
-    )?;
+    let tally = pieces::replayed(&rt, "lines.bin", LINES, lines::compared)?;
     println!(rt; "lines {tally}")
 }

@@ -1,6 +1,7 @@
 // A file that is read section by section: an image or what kindcheck reads, and one answer. A `u32` of the file is a `usize` by `as`, and a `usize`
 // a `u64`: there is no `From`.
-ghost use Rattle.std.specs.Prelude.{◌≤◌, length, IfOk};
+ghost use Rattle.std.specs.Prelude.{◌≡◌, ◌≤◌, ◌+◌, ℕ, length, IfOk};
+ghost use Rattle.replay.specs.Pieces.{agreed_on};
 
 use numbers::{u16_at, u32_at};
 use slices::{after, front};
@@ -34,6 +35,7 @@ fn read_at(file: &File, at: u64, buffer: &mut [u8]) -> io::Result<usize>
 // called: a struct around it would ask the same.
 fn section<F: Fn(&[u8], &[u8]) -> Compared>(s: &[u8], compare: &F, input: &mut [u8]) -> Compared
     requires { F.IsAlwaysCallable compare.now }
+    ensures { (m : ℕ) → ((x y r : _) → F.post compare.now x y r → r.size ≤ m) → result.size ≤ 4294967307 + m }
 {
     let start = stored::unpack_section(s, input);
     let found = compare(after(s, start), front(input, u32_at(s, 0) as usize));
@@ -96,14 +98,15 @@ fn counted<F: Fn(&[u8], &[u8]) -> Compared>(
     Ok(Tally { agreed, requests })
 }
 
-// The closure compares the answer that its first bytes begin with to what is answered for the others, the input.
+// The closure compares the answer that its first bytes begin with to what is answered for the others, the input, as the group says.
 pub(crate) fn replayed<F: Fn(&[u8], &[u8]) -> Compared>(
     rt: &HostRuntime,
     name: &str,
     group: u32,
     compare: F,
 ) -> io::Result<Tally>
-    requires { F.IsAlwaysCallable compare }
+    requires callable { F.IsAlwaysCallable compare }
+    requires compares { (s input r : _) → F.post compare s input r → r.agrees ≡ agreed_on group s.now input.now }
 {
     match fs::open(rt, name) {
         Ok(file) => {

@@ -15,12 +15,23 @@ use slices::{after, part};
 use stored::{is_kind, is_number, is_refusal};
 use table::own_rows;
 
-// What a file has requests for. The number is that of its group, in the header. It is no closure: what is asked and how many bytes a request has are
+// What a file has requests for. It is no closure: what is asked and how many bytes a request has are
 // told apart, also in the contracts: `replay` promises `agreed_of` and `place_of` by the group, which a closure's contract would have to carry.
 #[derive(Clone, Copy)]
 pub(crate) enum Requests {
-    Lookups = 3,
-    Formulas = 4,
+    Lookups,
+    Formulas,
+}
+
+// The number of a file's group, in its header.
+#[tactic(auto, unfolding(crate::specs::Requests::group_of))]
+pub(crate) fn group_of(requests: Requests) -> u32
+    ensures { result ≡ R.group_of requests }
+{
+    match requests {
+        Requests::Lookups => 3,
+        Requests::Formulas => 4,
+    }
 }
 
 // What the twin list holds before each request: the index of no kind.

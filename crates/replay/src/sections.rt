@@ -13,7 +13,7 @@ use stored::{LONGEST, Part, Tally, UNREADABLE};
 fn replay(s: &[u8], requests: Requests, n: u16, table: &[u32]) -> Part
     ensures agreed_value { result.agreed ≡ R.agreed_of requests s.now table.now n }
     ensures size_value { result.size ≡ R.place_of requests s.now n }
-    ensures upper_bound { result.size ≤ 1179642 * n }
+    ensures upper_bound { (result.agreed ≤ n) × (result.size ≤ 1179642 * n) }
 {
     let mut at: usize = 0;
     // No chain that counts: the place moves on beside the count.
@@ -32,7 +32,10 @@ fn replay(s: &[u8], requests: Requests, n: u16, table: &[u32]) -> Part
 }
 
 // The section that s begins with.
-fn section(s: &[u8], requests: Requests, image: &mut [u8]) -> Part {
+fn section(s: &[u8], requests: Requests, image: &mut [u8]) -> Part
+    ensures agreed_bound { result.agreed ≤ 65535 }
+    ensures size_bound { result.size ≤ 90000000000 }
+{
     let start = stored::unpack_section(s, image);
     let mut table = [0u32; 9296];
     // Each stored image compiles; of one that did not, the requests would be asked of zeros.
@@ -59,9 +62,9 @@ fn agreed(s: &[u8], requests: Requests, n: u32, image: &mut [u8]) -> Option<u32>
     rest.is_empty().then_some(count)
 }
 
-// This and `replayed` are alike in `vectors`: they are what is around the walk, and would promise no more than it. The group is a number by `as`: a `From` of it would be this cast.
+// This and `replayed` are alike in `vectors`: they are what is around the walk, and would promise no more than it.
 fn counted(s: &[u8], requests: Requests) -> Tally {
-    if !stored::is_group(s, requests as u32) {
+    if !stored::is_group(s, requests::group_of(requests)) {
         return UNREADABLE;
     }
     let mut image = [0u8; LONGEST];

@@ -3,6 +3,7 @@
 use Prim.Native.Nat.{ℕ, zero, suc}
 use mathlib.Core.Path.{◌≡◌, refl, sym, ◌∙◌, subst}
 use mathlib.Core.Bool.{Bool, true, false, cond}
+use mathlib.Core.List.{List}
 use lib.IntN.{ℤ}
 use Rattle.std.specs.declared.option.Option.{Option}
 use Rattle.std.specs.declared.option.Option.TheVariants.{None, Some}
@@ -12,7 +13,7 @@ use Rattle.dimension.specs.declared.rational.Rational.{Rational}
 use Rattle.dimension.specs.declared.grade.ProductOp.TheVariants.{Mul, Div, Dot, Wedge}
 use Rattle.rules.specs.Arithmetic.{Op, summed, multiplied, Add, Sub, op_by, op_code}
 use Rattle.rules.specs.Formula as rule
-use Rattle.rules.specs.Formula.{number, kind, unary, binary, unreadable, exact, inexact, absolute, combined, compared}
+use Rattle.rules.specs.Formula.{number, kind, unary, binary, unreadable, exact, inexact, absolute, combined, compared, Machine, bad, step}
 use Rattle.rules.specs.Token.{token_by}
 use Rattle.error.specs.Shown.{op_as}
 use Rattle.error.specs.declared.op.Op as code
@@ -116,3 +117,22 @@ told unreadable = tt
 
 pub told_as_law : (t : rule.Token) {v w : Token} → v ≡ w → v ≡ coded t → Told t w
 told_as_law t p e = subst (Told t) (sym e ∙ p) (told t)
+
+-- a token that the code can't read is out of place in every machine
+module _ (t : rule.Token) {v : Token} where
+  pub unreadable_told : {E A : Type 0} (M : Machine E A) (s : List A) → v ≡ Unreadable → v ≡ coded t → step M t s ≡ bad
+  unreadable_told M s p e = go t (sym p ∙ e)
+    where
+      go : (t : rule.Token) → Unreadable ≡ coded t → step M t s ≡ bad
+      go number h = cc
+      go (kind k) h = cc
+      go (unary (exact e)) h = over (F.within e) h
+        where
+          over : (b : Bool) → Unreadable ≡ cond b (Unary (Exact e)) Unreadable → cond b (rule.with_one (M.unary (exact e)) s) bad ≡ bad
+          over true h = cc
+          over false h = refl
+      go (unary inexact) h = cc
+      go (unary absolute) h = cc
+      go (binary (combined op)) h = cc
+      go (binary compared) h = cc
+      go unreadable h = refl

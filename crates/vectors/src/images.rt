@@ -113,7 +113,10 @@ fn agreed_in(requests: &[u8], n: u16, image: &mut [u8]) -> u32
 }
 
 // The section that s begins with.
-fn section(s: &[u8], image: &mut [u8]) -> Part {
+fn section(s: &[u8], image: &mut [u8]) -> Part
+    ensures agreed_bound { result.agreed ≤ 65535 }
+    ensures size_bound { result.size ≤ 4296278007 }
+{
     let requests = u16_at(s, 8);
     let start = stored::unpack_section(s, image);
     Part {

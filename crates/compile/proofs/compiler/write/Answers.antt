@@ -7,4 +7,4 @@ use Rattle.compile.proofs.compiler.write.Goals as goal
 pub returns : goal.returns
 unfolding whole
 returns c =
-    all_three c.args.front.now c.args.rows.now c.args.table.now 7696 c.requires.front_len_bound (omega (arith, c.requires.in_bounds)) c.copy_from_slice.ensures.after (c.fill.ensures.after (λ y e. e)) c.copy_from_slice-2.ensures.after
+    all_three c.args.front.now c.args.rows.now c.args.table.now 7696 c.requires.front_len_bound (omega (arith, c.requires.in_bounds)) c.copy.ensures (c.fill.ensures.after (λ y e. e)) c.copy_from_slice.ensures.after

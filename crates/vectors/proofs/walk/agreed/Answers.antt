@@ -1,4 +1,4 @@
-use Rattle.std.proofs.Common.{◌≡◌, Some, arith, rules, of_calls}
+use Rattle.std.proofs.Common.{rules, of_calls}
 use Rattle.vectors.proofs.walk.agreed.Goals as goal
 
 pub loop-preserved : goal.loop-preserved
